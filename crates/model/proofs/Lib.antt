@@ -1,0 +1,10 @@
+pub mod Walking
+pub mod Bounds
+pub mod Meeting
+pub mod Gathering
+pub mod Deeper
+pub mod Stepping
+pub mod Decode
+pub mod Keeping
+pub mod Needed
+pub mod ByFields

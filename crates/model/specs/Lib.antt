@@ -1,0 +1,11 @@
+pub mod Names
+pub mod Nets
+pub mod Walks
+pub mod Model
+pub mod Decoding
+pub mod Faults
+pub mod Edits
+pub mod Looks
+pub mod Bottoms
+pub mod Orders
+pub mod Laws

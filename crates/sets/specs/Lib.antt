@@ -1,0 +1,5 @@
+pub mod Members
+pub mod Orders
+pub mod Sets
+pub mod Fields
+pub mod Laws

@@ -1,0 +1,4 @@
+pub mod laws;
+pub mod member;
+pub mod order;
+pub mod sorted;

@@ -1,0 +1,4 @@
+pub mod Spelling
+pub mod Columns
+pub mod Backs
+pub mod Peels
