@@ -8,3 +8,4 @@ pub mod Decode
 pub mod Keeping
 pub mod Needed
 pub mod ByFields
+pub mod Settling

@@ -27,7 +27,7 @@ pub impl fmt::Display for RowFault as RowFaultDisplay {
         match *self {
             RowFault::Length { found } => write!(
                 f,
-                "the line has {found} characters, which is not its length"
+                "the line has {found} characters, which is the wrong length"
             ),
             RowFault::NotADigit { column } => write!(
                 f,
