@@ -24,9 +24,36 @@ fn repeats_count_once() -> Result<(), Fail> {
 
 #[test]
 fn every_field_counts() -> Result<(), Fail> {
-    let blocks = [AcceptBlock { node: 1, lo: 0, hi: 9 }, AcceptBlock { node: 0, lo: 4, hi: 4 }];
-    check(contains(&blocks, AcceptBlock { node: 0, lo: 4, hi: 4 }))?;
-    check(!contains(&blocks, AcceptBlock { node: 1, lo: 0, hi: 4 }))
+    let blocks = [
+        AcceptBlock {
+            node: 1,
+            lo: 0,
+            hi: 9,
+        },
+        AcceptBlock {
+            node: 0,
+            lo: 4,
+            hi: 4,
+        },
+    ];
+    check(contains(
+        &blocks,
+        AcceptBlock {
+            node: 0,
+            lo: 4,
+            hi: 4,
+        },
+    ))?;
+    check(
+        !contains(
+            &blocks,
+            AcceptBlock {
+                node: 1,
+                lo: 0,
+                hi: 4,
+            },
+        ),
+    )
 }
 
 #[test]

@@ -1,0 +1,5 @@
+pub mod Apart
+pub mod Shape
+pub mod Formed
+pub mod Found
+pub mod Outcomes

@@ -1,0 +1,4 @@
+pub mod Scanning
+pub mod Stepping
+pub mod Rising
+pub mod Passing
