@@ -4,6 +4,8 @@ mod boards;
 #[cfg(test)]
 mod bottoms;
 #[cfg(test)]
+mod lines;
+#[cfg(test)]
 mod ordered;
 #[cfg(test)]
 mod tables;

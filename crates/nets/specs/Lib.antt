@@ -1,3 +1,4 @@
 pub mod Gathering
 pub mod Shape
 pub mod Resolving
+pub mod Meant

@@ -1,4 +1,6 @@
 // A net over any space: the layer that decodes through nodes.
+pub mod edit;
 mod gather;
+pub mod layer;
 pub mod net;
 pub mod through;

@@ -9,6 +9,7 @@ use model::names::Name;
 
 pub mod bank;
 pub mod flat;
+pub mod layer;
 pub mod slots;
 pub mod socket;
 

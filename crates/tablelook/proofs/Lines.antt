@@ -1,29 +1,18 @@
--- The line of an address, written name after name.
-use Prim.Native.Nat.{ℕ, _+_, _-_, _<_, _≤_}
+-- The line of an address.
+use Prim.Native.Nat.{ℕ, _-_, _<_, _≤_}
 use mathlib.Core.Path.{_≡_, refl, sym, _∙_, ap}
 use mathlib.Core.List.{List, [], _∷_, _++_, append-assoc}
 use native.Mathlib.Omega.{arith}
 use lib.Chars.{codes}
 use lib.Dec.{leb}
-use lib.ListN.{length, take, drop, getD}
-use Rattle.std.proofs.shelf.Lists.{at-drop-more, at-drop-all, append-nil, take-at}
+use lib.ListN.{length, take, drop}
+use Rattle.std.proofs.shelf.Lists.{take-at}
 use Rattle.std.proofs.shelf.Tests.{cond-true, cond-false, le-leb, lt-leb}
 use Rattle.model.specs.declared.names.Name.{Name}
 use Rattle.model.specs.Looks.{filled}
 use Rattle.text.specs.Numbers.{spelled}
-use Rattle.text.specs.Rows.{name-text}
-use Rattle.tablelook.specs.Answers.{names-text, found-text, look-text}
-
-module _ (names : List Name) (i : ℕ) (whole line : List ℕ) (inv : line ++ names-text (drop i names) ≡ whole) where
-  pub names-more : (d : Name) (spaced named : List ℕ) → i < length names → spaced ≡ line ++ (32 ∷ []) → named ≡ spaced ++ name-text (getD names i d) → named ++ names-text (drop (i + 1) names) ≡ whole
-  names-more d spaced named h e f =
-      ap (λ l. l ++ names-text (drop (i + 1) names)) (f ∙ ap (λ l. l ++ name-text (getD names i d)) e)
-      ∙ append-assoc (line ++ (32 ∷ [])) (name-text (getD names i d)) (names-text (drop (i + 1) names))
-      ∙ append-assoc line (32 ∷ []) (name-text (getD names i d) ++ names-text (drop (i + 1) names))
-      ∙ ap (λ l. line ++ l) (sym (at-drop-more names-text names i d h)) ∙ inv
-
-  pub names-done : length names ≤ i → line ≡ whole
-  names-done h = sym (append-nil line) ∙ ap (λ l. line ++ l) (sym (at-drop-all names-text names i h)) ∙ inv
+use Rattle.text.specs.Rows.{names-text}
+use Rattle.tablelook.specs.Answers.{found-text, look-text}
 
 -- no names, and some
 pub found-none : (names : List Name) (line after : List ℕ) → length names ≡ 0 → after ≡ line ++ codes " none" → after ≡ line ++ found-text names

@@ -14,7 +14,7 @@ use Rattle.model.specs.declared.records.Record.{Record}
 use Rattle.model.specs.Bottoms.{misfit}
 use Rattle.model.specs.Faults.{told}
 use Rattle.text.specs.Numbers.{spelled}
-use Rattle.text.specs.Rows.{row-read, name-text}
+use Rattle.text.specs.Rows.{row-read, names-text}
 use Rattle.tablelook.specs.declared.answer.RowProblem.{RowProblem}
 use Rattle.tablelook.specs.declared.answer.RowProblem.the-variants.{Text, Refused}
 
@@ -23,11 +23,6 @@ abbrev pub RowAnswer : List ℕ → Result Record RowProblem → Type 0
 RowAnswer line (Ok row) = (row-read line ≡ Ok row) × (misfit 0 (row ∷ []) ≡ none)
 RowAnswer line (Err (Text f)) = row-read line ≡ Err f
 RowAnswer line (Err (Refused f)) = (row : Record) × (row-read line ≡ Ok row) × (misfit 0 (row ∷ []) ≡ some (told f))
-
--- the names of a list, a space before each
-abbrev pub names-text : List Name → List ℕ
-names-text [] = []
-names-text (n ∷ ns) = (32 ∷ name-text n) ++ names-text ns
 
 -- the names found, or that there are none
 abbrev pub found-text : List Name → List ℕ

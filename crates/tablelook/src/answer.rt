@@ -4,7 +4,7 @@ ghost use lib.ListN.{length};
 ghost use Rattle.std.specs.Of.String.{string-bytes};
 ghost use Rattle.std.specs.Vec.{made};
 ghost use Rattle.model.specs.Model.{lists};
-ghost use Rattle.tablelook.specs.Answers.{RowAnswer, found-text, look-text, names-text};
+ghost use Rattle.tablelook.specs.Answers.{RowAnswer, found-text, look-text};
 use model::faults::Fault;
 use model::names::Name;
 use model::records::Record;
@@ -14,7 +14,7 @@ use std::alloc::AllocError;
 use std::alloc::Global;
 use text::number::push_number;
 use text::row::RowFault;
-use text::row::push_name;
+use text::row::push_names;
 use text::row::read_row;
 
 // Why a row is left out: its text is damaged, or no table takes its record.
@@ -68,16 +68,5 @@ fn push_found(line: &mut String, names: &[Name]) -> Result<(), AllocError>
     }
     line.push_str(" =")?;
     push_names(line, names)?;
-    Ok(())
-}
-
-// Appends the names, a space before each.
-fn push_names(line: &mut String, names: &[Name]) -> Result<(), AllocError>
-    ensures { λ r. ⌜ made r (λ _. string-bytes (now (line .exit)) ≡ string-bytes (now (line .entry)) ++ names-text (now (names .entry))) ⌝ }
-{
-    for name in names {
-        line.push_str(" ")?;
-        push_name(line, *name)?;
-    }
     Ok(())
 }

@@ -2,3 +2,4 @@ pub mod Spelling
 pub mod Columns
 pub mod Backs
 pub mod Peels
+pub mod Naming

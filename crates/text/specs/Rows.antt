@@ -63,3 +63,8 @@ row-text r = spelled 16 (r .lo) ++ (32 ∷ (spelled 16 (r .hi) ++ (32 ∷ (spell
 
 abbrev pub name-text : Name → List ℕ
 name-text n = spelled 8 (n .component) ++ (32 ∷ spelled 16 (n .address))
+
+-- names one after another, a space before each
+abbrev pub names-text : List Name → List ℕ
+names-text [] = []
+names-text (n ∷ ns) = (32 ∷ name-text n) ++ names-text ns

@@ -4,8 +4,9 @@ ghost use mathlib.Core.List.{[], _∷_, _++_};
 ghost use Prim.Native.Nat.{_+_, _^_, _<_, _≤_};
 ghost use lib.ListN.{length};
 ghost use Rattle.std.specs.Results.{isOk};
+ghost use Rattle.std.specs.Vec.{made};
 ghost use Rattle.std.specs.Of.String.{string-bytes, string-len, string-cap};
-ghost use Rattle.text.specs.Rows.{width, space-at, fault-at, checked, row-read, address-read, number-at, row-text, name-text};
+ghost use Rattle.text.specs.Rows.{width, space-at, fault-at, checked, row-read, address-read, number-at, row-text, name-text, names-text};
 use crate::digit::digit;
 use crate::number::append_number;
 use crate::number::read_number;
@@ -163,5 +164,16 @@ pub fn push_name(out: &mut String, name: Name) -> Result<(), AllocError>
     append_number(out, u64::from(name.component), 8);
     append_space(out);
     append_number(out, name.address, 16);
+    Ok(())
+}
+
+// Appends names one after another, a space before each.
+pub fn push_names(out: &mut String, names: &[Name]) -> Result<(), AllocError>
+    ensures { λ r. ⌜ made r (λ _. string-bytes (now (out .exit)) ≡ string-bytes (now (out .entry)) ++ names-text (now (names .entry))) ⌝ }
+{
+    for name in names {
+        out.push_str(" ")?;
+        push_name(out, *name)?;
+    }
     Ok(())
 }
