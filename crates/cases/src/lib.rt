@@ -8,4 +8,8 @@ mod lines;
 #[cfg(test)]
 mod ordered;
 #[cfg(test)]
+mod runs;
+#[cfg(test)]
+mod stacks;
+#[cfg(test)]
 mod tables;

@@ -1,14 +1,12 @@
 ghost use mathlib.Core.Path.{_≡_};
-ghost use mathlib.Core.List.{_++_};
-ghost use lib.ListN.{length};
 ghost use Rattle.std.specs.Of.String.{string-bytes};
 ghost use Rattle.std.specs.Vec.{made};
-ghost use Rattle.model.specs.Edits.{ended, edited};
+ghost use Rattle.model.specs.Edits.{ended};
 ghost use Rattle.model.specs.Faults.{told};
-ghost use Rattle.model.specs.Model.{lists};
 ghost use Rattle.nets.specs.Shape.{net-means};
 ghost use Rattle.nets.specs.Meant.{net-meant};
-ghost use Rattle.netlines.specs.Replies.{answered, frame-answered, end-text, refusal-text, look-text, names-line};
+ghost use Rattle.serve.specs.Reference.{asked-of, flattened, heard, looked, reference};
+ghost use Rattle.netlines.specs.Replies.{answered, end-text, frame-asked, names-line, refusal-text, reply-text};
 use frames::frame::Frame;
 use model::faults::Fault;
 use model::names::Name;
@@ -16,8 +14,10 @@ use nets::edit::NetEdit;
 use nets::layer::NetLayer;
 use nets::net::Net;
 use nets::through::NetSpace;
+use serve::call::Answer;
+use serve::call::Call;
+use serve::run::serve;
 use space::Space;
-use space::layer::Layer;
 use std::alloc::AllocError;
 use std::alloc::Global;
 use text::number::push_number;
@@ -32,46 +32,68 @@ pub fn answer<B: Space + Drop>(
     net: &mut Net<B>,
     read: Result<Frame, Fault>,
 ) -> Result<String, AllocError>
-    ensures text { λ r. ⌜ made r (λ line. string-bytes line ≡ answered (net-means (B·Space .means) (now (net .entry)) .shape) read .0) ⌝ }
-    ensures kept { λ _. ⌜ net-means (B·Space .means) (now (net .exit)) .shape ≡ answered (net-means (B·Space .means) (now (net .entry)) .shape) read .1 ⌝ }
+    ensures { λ r. ⌜ made r (λ line. (string-bytes line ≡ answered (net-means (B·Space .means) (now (net .entry)) .shape) read .0) × (net-means (B·Space .means) (now (net .exit)) .shape ≡ answered (net-means (B·Space .means) (now (net .entry)) .shape) read .1)) ⌝ }
 {
     match read {
-        Ok(frame) => obey(heap, net, frame),
-        Err(fault) => refusal_line(heap, fault),
+        Ok(frame) => {
+            let line = obey(heap, net, frame)?;
+            Ok(line)
+        }
+        Err(fault) => {
+            let line = refusal_line(heap, fault)?;
+            Ok(line)
+        }
     }
 }
 
-// Makes the edit or the look of a frame.
+// Makes the one call that a frame asks for.
 fn obey<B: Space + Drop>(heap: Global, net: &mut Net<B>, frame: Frame) -> Result<String, AllocError>
-    ensures text { λ r. ⌜ made r (λ line. string-bytes line ≡ frame-answered (net-means (B·Space .means) (now (net .entry)) .shape) frame .0) ⌝ }
-    ensures kept { λ _. ⌜ net-means (B·Space .means) (now (net .exit)) .shape ≡ frame-answered (net-means (B·Space .means) (now (net .entry)) .shape) frame .1 ⌝ }
+    ensures { λ r. ⌜ made r (λ line. (string-bytes line ≡ reply-text (reference (net-means (B·Space .means) (now (net .entry)) .shape) (frame-asked frame) .0)) × (net-means (B·Space .means) (now (net .exit)) .shape ≡ reference (net-means (B·Space .means) (now (net .entry)) .shape) (frame-asked frame) .1)) ⌝ }
 {
-    match frame {
-        Frame::Accept(block) => edit_line(heap, net, NetEdit::Accept(block)),
-        Frame::Map(block) => edit_line(heap, net, NetEdit::Map(block)),
-        Frame::Over { node, destination } => edit_line(
-            heap,
-            net,
-            NetEdit::Over { node, destination },
-        ),
-        Frame::Enter { node } => edit_line(heap, net, NetEdit::Enter(node)),
-        Frame::DropAccept(block) => edit_line(heap, net, NetEdit::DropAccept(block)),
-        Frame::DropMap(block) => edit_line(heap, net, NetEdit::DropMap(block)),
-        Frame::Look { address } => look_line(heap, net, address),
+    let call = call_of::<B>(heap, frame)?;
+    let mut calls = Vec::new(heap);
+    calls.push(call)?;
+    let mut answers = serve(heap, net, calls)?;
+    match answers.pop() {
+        Some(answer) => {
+            let line = reply_line(heap, answer)?;
+            Ok(line)
+        }
+        None => unreachable(),
     }
 }
 
-// Makes an edit, and gives its line.
-fn edit_line<B: Space + Drop>(
-    heap: Global,
-    net: &mut Net<B>,
-    edit: NetEdit<B>,
-) -> Result<String, AllocError>
-    ensures text { λ r. ⌜ made r (λ line. string-bytes line ≡ end-text (edited (net-means (B·Space .means) (now (net .entry)) .shape) (net-meant (B·Space .means) edit) .0)) ⌝ }
-    ensures kept { λ _. ⌜ net-means (B·Space .means) (now (net .exit)) .shape ≡ edited (net-means (B·Space .means) (now (net .entry)) .shape) (net-meant (B·Space .means) edit) .1 ⌝ }
+// The call of a frame.
+fn call_of<B: Space + Drop>(heap: Global, frame: Frame) -> Result<Call<NetEdit<B>>, AllocError>
+    ensures { λ r. ⌜ made r (λ call. asked-of (net-meant (B·Space .means)) call ≡ frame-asked frame) ⌝ }
 {
-    let result = net.edit(edit);
-    end_line(heap, result)
+    let edit = match frame {
+        Frame::Accept(block) => NetEdit::Accept(block),
+        Frame::Map(block) => NetEdit::Map(block),
+        Frame::Over { node, destination } => NetEdit::Over { node, destination },
+        Frame::Enter { node } => NetEdit::Enter(node),
+        Frame::DropAccept(block) => NetEdit::DropAccept(block),
+        Frame::DropMap(block) => NetEdit::DropMap(block),
+        Frame::Look { address } => {
+            let slots = vec![in heap; Name {
+                component: 0,
+                address: 0
+            }; SLOTS]?;
+            return Ok(Call::Look { address, slots });
+        }
+    };
+    Ok(Call::Edit(edit))
+}
+
+// The line of an answer.
+fn reply_line(heap: Global, answer: Answer) -> Result<String, AllocError>
+    ensures { λ r. ⌜ made r (λ line. string-bytes line ≡ reply-text (heard answer)) ⌝ }
+{
+    match answer {
+        Answer::Edited(result) => end_line(heap, result),
+        Answer::Looked { result, slots } => look_line(heap, result, slots.as_slice()),
+        Answer::Flattened { result, .. } => flat_line(heap, result),
+    }
 }
 
 // The line of how an edit ended.
@@ -98,23 +120,25 @@ fn refusal_line(heap: Global, fault: Fault) -> Result<String, AllocError>
     Ok(line)
 }
 
-// The line of a look: how many names, and each of them.
-fn look_line<S: Space>(heap: Global, space: &S, address: u64) -> Result<String, AllocError>
-    ensures { λ r. ⌜ made r (λ line. string-bytes line ≡ look-text (lists (S·Space .means (now (space .entry)) .shape) address)) ⌝ }
+// The line of a look: the names in its first slots, as many as it counts.
+fn look_line(
+    heap: Global,
+    result: Result<(usize, u64), Fault>,
+    slots: &[Name],
+) -> Result<String, AllocError>
+    ensures { λ r. ⌜ made r (λ line. string-bytes line ≡ reply-text (looked result (now (slots .entry)))) ⌝ }
 {
-    let mut slots = [Name {
-        component: 0,
-        address: 0,
-    }; SLOTS];
-    match space.look(address, &mut slots) {
+    match result {
         Ok((count, _)) => {
-            let line = names_line(heap, &slots[0..count])?;
+            let shown = count.min(slots.len());
+            let line = names_line(heap, &slots[0..shown])?;
             Ok(line)
         }
         Err(fault) => refusal_line(heap, fault),
     }
 }
 
+// How many names, and each of them.
 fn names_line(heap: Global, names: &[Name]) -> Result<String, AllocError>
     ensures { λ r. ⌜ made r (λ line. string-bytes line ≡ names-line (now (names .entry))) ⌝ }
 {
@@ -123,4 +147,19 @@ fn names_line(heap: Global, names: &[Name]) -> Result<String, AllocError>
     push_number(&mut line, names.len() as u64, 2)?;
     push_names(&mut line, names)?;
     Ok(line)
+}
+
+// The line of a flattening, which no frame asks for.
+fn flat_line(heap: Global, result: Result<usize, Fault>) -> Result<String, AllocError>
+    ensures { λ r. ⌜ made r (λ line. string-bytes line ≡ reply-text (flattened result)) ⌝ }
+{
+    match result {
+        Ok(count) => {
+            let mut line = String::new(heap);
+            line.push_str("= ")?;
+            push_number(&mut line, count as u64, 16)?;
+            Ok(line)
+        }
+        Err(fault) => refusal_line(heap, fault),
+    }
 }

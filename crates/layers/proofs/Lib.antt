@@ -1,0 +1,4 @@
+pub mod Scans
+pub mod Meeting
+pub mod Renames
+pub mod Windows
