@@ -1,7 +1,7 @@
 ghost use Rattle.nets.specs.Meant.{net-meant};
 use crate::edit::NetEdit;
+use crate::methods::NetSpace;
 use crate::net::Net;
-use crate::through::NetSpace;
 use model::faults::Fault;
 use space::Space;
 use space::layer::Layer;

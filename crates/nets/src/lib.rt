@@ -2,5 +2,5 @@
 pub mod edit;
 mod gather;
 pub mod layer;
+pub mod methods;
 pub mod net;
-pub mod through;

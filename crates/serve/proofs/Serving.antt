@@ -6,8 +6,8 @@ use mathlib.Core.Logic.{_↔_}
 use mathlib.Core.List.{List, [], _∷_, _++_, append-assoc}
 use native.Mathlib.Omega.{arith}
 use lib.Dec.{leb}
-use lib.ListN.{length, take, drop}
-use Rattle.std.proofs.shelf.Lists.{take-at, refilled-is}
+use lib.ListN.{length}
+use Rattle.std.proofs.shelf.Lists.{refilled-is}
 use Rattle.std.proofs.shelf.Tests.{cond-true, cond-false, le-leb, lt-leb}
 use Rattle.std.specs.Changed.{refilled}
 use Rattle.std.specs.Of.Vec.{vec-items, vec-len}
@@ -24,6 +24,7 @@ use Rattle.model.specs.Decoding.{Decodes}
 use Rattle.model.specs.Faults.{plain, told}
 use Rattle.model.specs.Edits.{Edit}
 use Rattle.model.specs.Looks.{LookAnswer, zeroed, filled}
+use Rattle.space.proofs.Looked.{listed}
 use Rattle.model.proofs.Decode.{lists-then, then-lists}
 use Rattle.flatten.specs.Runs.{needed, fits}
 use Rattle.flatten.specs.Flattening.{FlattenAnswer}
@@ -34,25 +35,18 @@ use Rattle.serve.specs.declared.call.Answer.the-variants.{Looked as looked-wit
 use Rattle.serve.specs.Reference.{Reply, named, recorded, denied, reference, to-look, to-flatten, asked-of, looked, flattened}
 use Rattle.serve.specs.Served.{LookRight, FlattenRight, Right, Served, answered}
 
-filled-fits : (xs slots : List Name) → length xs ≤ length slots → filled xs slots ≡ xs ++ drop (length xs) slots
-filled-fits xs slots h = cond-true (leb (length xs) (length slots)) (xs ++ drop (length xs) slots) (zeroed slots) (le-leb (length xs) (length slots) h)
-
 -- a look
 module _ (m : Model) (a : ℕ) (slots after : List Name) (e : after ≡ filled (lists m a) slots) where
-  listed : (count : ℕ) → count ≡ length (lists m a) → count ≤ length slots → take count after ≡ lists m a
-  listed count k l =
-      ap (take count) (e ∙ filled-fits (lists m a) slots (omega arith)) ∙ take-at (lists m a) (drop (length (lists m a)) slots) count (sym k)
-
   look-same : (r : Result (record { 0 : ℕ; 1 : ℕ }) Fault) → LookAnswer (lists m) a (length slots) r → looked r after ≡ reference m (to-look a (length slots)) .0
   look-same (Ok g) h =
-      ap named (listed (g .0) (h .0) (h .1))
+      ap named (listed (lists m a) slots after (g .0) e (h .0) (h .1))
       ∙ sym (cond-true (leb (length (lists m a)) (length slots)) (named (lists m a)) (denied (plain 9)) (le-leb (length (lists m a)) (length slots) (omega (arith, h .0, h .1))))
   look-same (Err f) h = ap denied (h .0) ∙ sym (cond-false (leb (length (lists m a)) (length slots)) (named (lists m a)) (denied (plain 9)) (lt-leb (length (lists m a)) (length slots) (h .1)))
 
   look-right : Sound m → (r : Result (record { 0 : ℕ; 1 : ℕ }) Fault) → LookAnswer (lists m) a (length slots) r → LookRight m a r after
   look-right s (Ok g) h =
       let below : a < top = omega (arith, h .2 .least, h .2 .most) in (
-        (λ x. subst (λ (ys : List Name). (holds ys x ≡ true) ↔ Decodes m a x) (sym (listed (g .0) (h .0) (h .1))) (lists-then m s a below x, then-lists m s a below x)),
+        (λ x. subst (λ (ys : List Name). (holds ys x ≡ true) ↔ Decodes m a x) (sym (listed (lists m a) slots after (g .0) e (h .0) (h .1))) (lists-then m s a below x, then-lists m s a below x)),
         h .2,
       )
   look-right s (Err f) h = tt

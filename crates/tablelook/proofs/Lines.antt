@@ -5,11 +5,11 @@ use mathlib.Core.List.{List, [], _∷_, _++_, append-assoc}
 use native.Mathlib.Omega.{arith}
 use lib.Chars.{codes}
 use lib.Dec.{leb}
-use lib.ListN.{length, take, drop}
-use Rattle.std.proofs.shelf.Lists.{take-at}
+use lib.ListN.{length, take}
 use Rattle.std.proofs.shelf.Tests.{cond-true, cond-false, le-leb, lt-leb}
 use Rattle.model.specs.declared.names.Name.{Name}
 use Rattle.model.specs.Looks.{filled}
+use Rattle.space.proofs.Looked.{listed}
 use Rattle.text.specs.Numbers.{spelled}
 use Rattle.text.specs.Rows.{names-text}
 use Rattle.tablelook.specs.Answers.{found-text, look-text}
@@ -29,9 +29,7 @@ module _ (list slots : List Name) (a : ℕ) (start after : List ℕ) (s : start 
   look-found count last k l f e =
       let m : length list ≤ length slots = omega arith in
       let n : count - 0 ≡ length list = omega arith in
-      let t : take (count - 0) last ≡ list =
-      ap (λ x. take (count - 0) x) (f ∙ cond-true (leb (length list) (length slots)) _ _ (le-leb (length list) (length slots) m))
-      ∙ take-at list (drop (length list) slots) (count - 0) (sym n) in
+      let t : take (count - 0) last ≡ list = listed list slots last (count - 0) f n (omega arith) in
       e ∙ ap (λ x. x ++ found-text (take (count - 0) last)) s ∙ ap (λ x. spelled 16 a ++ found-text x) t
       ∙ ap (λ x. spelled 16 a ++ x) (sym (cond-true (leb (length list) (length slots)) (found-text list) (codes " - 09") (le-leb (length list) (length slots) m)))
 

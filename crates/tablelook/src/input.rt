@@ -1,4 +1,9 @@
-use std::alloc::Global;
+ghost use Prim.Native.Nat.{_+_, min};
+ghost use mathlib.Core.Path.{_≡_};
+ghost use mathlib.Core.Bool.{cond};
+ghost use mathlib.Core.List.{[]};
+ghost use Rattle.std.specs.Of.Vec.{vec-items};
+ghost use Rattle.std.specs.Vec.{made};
 use std::io;
 use std::io::BufRead;
 use std::io::BufReader;
@@ -13,7 +18,10 @@ pub struct Input {
 }
 
 impl Input {
-    pub fn new(rt: &LibcRuntime) -> Input {
+    pub fn new(rt: &LibcRuntime) -> Input
+        ensures line { λ r. ⌜ vec-items (r .line) ≡ [] ⌝ }
+        ensures number { λ r. ⌜ r .number ≡ 0 ⌝ }
+    {
         Input {
             reader: BufReader::new(rt.stdin()),
             line: Vec::new(rt.alloc()),
@@ -22,7 +30,9 @@ impl Input {
     }
 
     // Reads the next line, without its line feed; false at the end of the input.
-    pub fn read_line(&mut self) -> io::Result<bool> {
+    pub fn read_line(&mut self) -> io::Result<bool>
+        ensures { λ r. ⌜ made r (λ more. now (self .exit) .number ≡ cond more (min (now (self .entry) .number + 1) 18446744073709551615) (now (self .entry) .number)) ⌝ }
+    {
         self.line.clear();
         if self.reader.read_until(b'\n', &mut self.line)? == 0 {
             return Ok(false);
@@ -35,11 +45,15 @@ impl Input {
     }
 
     // The line that was read last, and its number, from 1.
-    pub fn line(&self) -> &[u8] {
+    pub fn line(&self) -> &[u8]
+        ensures { λ r. ⌜ now r ≡ vec-items (now (self .entry) .line) ⌝ }
+    {
         self.line.as_slice()
     }
 
-    pub fn number(&self) -> u64 {
+    pub fn number(&self) -> u64
+        ensures { λ r. ⌜ r ≡ now (self .entry) .number ⌝ }
+    {
         self.number
     }
 }

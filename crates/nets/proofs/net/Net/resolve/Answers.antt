@@ -35,6 +35,6 @@ returns-in-Err g c =
     let t : Inner = inner (c .args .self .now .table) in
     let m : Model = g .B·Space .means (c .args .self .now .below) .shape in
     record {
-      answer = resolved-unknown t m (c .args .node) (c .args .address) (c .in-Err .fault) (omega arith) (c .in-Err .ensures tt) (length (c .args .slots .now));
-      buffer = unknown-buffer t m (c .args .node) (c .args .address) (c .in-Err .fault) (omega arith) (c .in-Err .ensures tt) (c .args .slots .now);
+      answer = resolved-unknown t m (c .args .node) (c .args .address) (c .in-Err .unknown) (omega arith) (c .in-Err .ensures tt) (length (c .args .slots .now));
+      buffer = unknown-buffer t m (c .args .node) (c .args .address) (c .in-Err .unknown) (omega arith) (c .in-Err .ensures tt) (c .args .slots .now);
     }

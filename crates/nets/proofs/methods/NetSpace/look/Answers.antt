@@ -1,7 +1,7 @@
 use lib.ListN.{length}
 use Rattle.nets.specs.Shape.{inner}
 use Rattle.nets.proofs.Looks.{look-answer, look-buffer}
-use Rattle.nets.proofs.through.NetSpace.look.Needs as need
+use Rattle.nets.proofs.methods.NetSpace.look.Needs as need
 
 pub returns : need.returns
 returns g c = record {

@@ -5,7 +5,7 @@ use Rattle.model.specs.Model.{Model}
 use Rattle.walks.specs.declared.notes.Note.{Note}
 use Rattle.nets.specs.Shape.{Inner, inner}
 use Rattle.nets.proofs.Looks.{walked-slice, met-at, never}
-use Rattle.nets.proofs.through.NetSpace.meets.Needs as need
+use Rattle.nets.proofs.methods.NetSpace.meets.Needs as need
 
 pub unreachable-requires : need.unreachable-requires
 unreachable-requires g c κs =

@@ -37,7 +37,7 @@ impl<B: Space> Net<B> {
                 Ok((count, room)) => Ok((count, address + room)),
                 Err(fault) => Err(fault),
             },
-            Err(fault) => Err(fault),
+            Err(unknown) => Err(unknown),
         }
     }
 
