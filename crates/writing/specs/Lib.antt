@@ -1,0 +1,3 @@
+pub mod Pasting
+pub mod Texts
+pub mod Fields
