@@ -1,3 +1,5 @@
+#![tactic(auto)]
+
 // What a net keeps in memory: valid blocks in the order in which they came, overlays, the entry.
 pub mod alike;
 pub mod distinct;

@@ -5,6 +5,7 @@ ghost use Rattle.blocks.specs.Apart.{apart};
 
 use lists::ArrayVec;
 use model::blocks::{AcceptBlock, MapBlock};
+use std::alloc::AllocError;
 
 // An accept block that a net may keep.
 #[derive(Clone, Copy)]
@@ -28,6 +29,12 @@ pub struct Blocks {
     pub overlays: [u8; 32],
     pub entry: u8,
     ghost valid: { (entry < 32) × ((k : ℕ) → slice_index overlays k ≤ 33) × (apart same_accept (each (λ x. x.block) (held accepts)) ≡ true) × (apart same_map (each (λ x. x.block) (held maps)) ≡ true) × (length overlays ≡ 32) },
+}
+
+impl Clone for Blocks {
+    fn clone(&self) -> Result<Blocks, AllocError> {
+        Ok(*self)
+    }
 }
 
 impl Copy for Blocks {}

@@ -1,3 +1,5 @@
+#![tactic(auto)]
+
 // The worked cases: a board, and what the reference model, which every contract of the library cites, answers on it.
 ghost use Rattle.std.specs.Prelude.{[], ◌∷◌};
 ghost use Rattle.model.specs.Nets.{fresh};

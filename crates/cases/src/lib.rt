@@ -1,3 +1,5 @@
+#![tactic(auto)]
+
 // Worked cases of the crates below, as tests; the expected values are worked out by hand.
 #[cfg(test)]
 mod boards;

@@ -1,3 +1,5 @@
+#![tactic(auto)]
+
 // Runs both implementations on the same cases, and tells for each family whether they differ.
 mod build;
 mod calls;

@@ -1,3 +1,5 @@
+#![tactic(auto)]
+
 // A whole space turned into a flat table of records, and two spaces compared at every address.
 pub mod compare;
 mod count;

@@ -1,3 +1,5 @@
+#![tactic(auto)]
+
 // Frames, and the lines of hexadecimal text that they are read from.
 pub mod frame;
 pub mod laws;

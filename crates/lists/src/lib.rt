@@ -1,5 +1,9 @@
+#![tactic(auto)]
+
 // Lists of bounded length, kept in an array: no heap.
 ghost use Rattle.std.specs.Prelude.{◌≡◌, ◌≤◌, length};
+
+use std::alloc::AllocError;
 
 pub mod methods;
 
@@ -8,6 +12,12 @@ pub struct ArrayVec<T, const N: usize> {
     items: [T; N],
     len: usize,
     ghost ok: { (len ≤ N) × (length items ≡ N) },
+}
+
+impl<T: Copy, const N: usize> Clone for ArrayVec<T, N> {
+    fn clone(&self) -> Result<ArrayVec<T, N>, AllocError> {
+        Ok(*self)
+    }
 }
 
 impl<T: Copy, const N: usize> Copy for ArrayVec<T, N> {}

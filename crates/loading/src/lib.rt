@@ -1,3 +1,5 @@
+#![tactic(auto)]
+
 // A net's table from text, one frame a line.
 pub mod fault;
 pub mod laws;

@@ -119,7 +119,7 @@ module _ (ps : List (ℕ × ℕ)) (m : Model) where
 pub lists-then : (m : Model) → Sound m → (a : ℕ) → a < top → (x : Name) → holds (lists m a) x ≡ true → Decodes m a x
 lists-then (bottom list) s a l x h = (comes 0 a, x, stays, byBottom first h, refl)
 lists-then (net k m) s a l x h =
-    let b = bound_walked k s.1 k.entry a s.0.entry_Known l in
+    let b = bound_walked k s.1 k.entry a s.0.entry_known l in
     let h' = subst (λ o. holds (walked k (lists m) o) x ≡ true) (complete k b.1 64 b.2) h in
     net-finds k m a b.0 b.1 (λ c i y g. lists-then m s.2 c (walk_low k s.0 k.entry a l b.1 (below c) i) y g) x
     (gathered-found k (lists m) x b.0 h')
@@ -150,7 +150,7 @@ bottom-found list a (goes (passes h) r) acc = elim h [ ]
 pub then-lists : (m : Model) → Sound m → (a : ℕ) → a < top → (x : Name) → Decodes m a x → holds (lists m a) x ≡ true
 then-lists (bottom list) s a l x d = ap (holds (list a)) d.4 ∙ bottom-found list a d.2 d.3
 then-lists (net k m) s a l x d =
-    let b = bound_walked k s.1 k.entry a s.0.entry_Known l in
+    let b = bound_walked k s.1 k.entry a s.0.entry_known l in
     ap (holds (lists (net k m) a)) d.4
     ∙ ap (λ o. holds (walked k (lists m) o) (given (net k m) (depth d.0) d.1)) (complete k b.1 64 b.2)
     ∙ net-found k m a b.0 b.1 (λ c i y g. then-lists m s.2 c (walk_low k s.0 k.entry a l b.1 (below c) i) y g) d.2 d.3

@@ -1,3 +1,5 @@
+#![tactic(auto)]
+
 // The words that every other crate speaks in, and, in specs/, the reference model that their contracts cite.
 pub mod blocks;
 pub mod faults;

@@ -1,3 +1,5 @@
+#![tactic(auto)]
+
 // A net from a text of frames: written back, flattened into rows, or compared as two of its nodes see it.
 mod flat;
 

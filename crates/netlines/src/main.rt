@@ -1,3 +1,5 @@
+#![tactic(auto)]
+
 // Reads frames from standard input, a line each, into a net, and answers every line as it comes.
 mod answer;
 

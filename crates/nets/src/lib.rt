@@ -1,3 +1,5 @@
+#![tactic(auto)]
+
 // A net over any space: the layer that decodes through nodes.
 pub mod edit;
 mod gather;

@@ -1,3 +1,5 @@
+#![tactic(auto)]
+
 // The search for the first name of a net whose walk meets more than 64 names.
 mod agenda;
 mod bounds;

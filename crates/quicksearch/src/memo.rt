@@ -1,5 +1,7 @@
 ghost use Rattle.std.specs.Prelude.{◌≤◌};
 
+use std::alloc::AllocError;
+
 // How many bounds and how many passed agendas a search remembers, and of how many spots such an agenda may be: 8 KB in all.
 pub(crate) const BOUNDS: usize = 128;
 
@@ -38,6 +40,12 @@ pub(crate) struct PassedAgenda {
 pub(crate) struct Memo {
     pub bounds: [RangeBound; BOUNDS],
     pub agendas: [PassedAgenda; AGENDAS],
+}
+
+impl Clone for Memo {
+    fn clone(&self) -> Result<Memo, AllocError> {
+        Ok(*self)
+    }
 }
 
 impl Copy for Memo {}

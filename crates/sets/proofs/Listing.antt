@@ -1,9 +1,8 @@
 -- The order by fields is an order, whatever the fields.
 use Rattle.std.proofs.Common.{◌≡◌, ℕ, ◌<◌, Bool, true, false, ◌&&◌, eqb, ◌⊎◌, List, [], ◌∷◌, Ordering, Less, Equal, Greater, sym, refl, ap, ◌∙◌, inl, inr, true≢false, eqb-true}
 use mathlib.Core.Bool.{false≢true}
-use Rattle.std.specs.Ordering.{is_eq, is_gt, ordering_reverse, ordering_then, MatchOrdering}
+use Rattle.std.specs.Ordering.{is_eq, is_gt, ordering_reverse, ordering_then, nat_cmp}
 use Rattle.std.specs.Cmp.{nat_cmp_total, unsigned_tied, alike_right}
-use Rattle.std.specs.Cmp as keys
 use Rattle.std.proofs.lemmas.Bool.{and_parts}
 use Rattle.sets.specs.Fields.{lex}
 use Rattle.sets.specs.Orders.{Order}
@@ -35,9 +34,9 @@ pub lex-flips : (xs ys : List ℕ) → lex xs ys ≡ ordering_reverse (lex ys xs
 lex-flips [] [] = refl
 lex-flips [] (y ∷ ys) = refl
 lex-flips (x ∷ xs) [] = refl
-lex-flips (x ∷ xs) (y ∷ ys) = (λ i. ordering_then (nat_cmp_total.antisymm x y i) (lex-flips xs ys i)) ∙ then_turned (keys.rank y x) (lex ys xs)
+lex-flips (x ∷ xs) (y ∷ ys) = (λ i. ordering_then (nat_cmp_total.antisymm x y i) (lex-flips xs ys i)) ∙ then_turned (nat_cmp y x) (lex ys xs)
 
-lex-steps : (x y z : ℕ) (a b c : Ordering) (k m : Ordering) → keys.rank x y ≡ k → keys.rank y z ≡ m → (a ≡ Less → b ≡ Less → c ≡ Less) → ordering_then k a ≡ Less → ordering_then m b ≡ Less → ordering_then (keys.rank x z) c ≡ Less
+lex-steps : (x y z : ℕ) (a b c : Ordering) (k m : Ordering) → nat_cmp x y ≡ k → nat_cmp y z ≡ m → (a ≡ Less → b ≡ Less → c ≡ Less) → ordering_then k a ≡ Less → ordering_then m b ≡ Less → ordering_then (nat_cmp x z) c ≡ Less
 lex-steps x y z a b c Less Less p q t h g = ap (λ k. ordering_then k c) (nat_cmp_total.trans x y z p q)
 lex-steps x y z a b c Less Equal p q t h g = ap (λ k. ordering_then k c) (sym (alike_right nat_cmp_total y z x q) ∙ p)
 lex-steps x y z a b c Less Greater p q t h g = absurd (true≢false (ap is_gt g))
@@ -52,7 +51,7 @@ lex-rises [] (y ∷ ys) [] h k = absurd (true≢false (ap is_gt k))
 lex-rises [] (y ∷ ys) (z ∷ zs) h k = refl
 lex-rises (x ∷ xs) [] zs h k = absurd (true≢false (ap is_gt h))
 lex-rises (x ∷ xs) (y ∷ ys) [] h k = k
-lex-rises (x ∷ xs) (y ∷ ys) (z ∷ zs) h k = lex-steps x y z (lex xs ys) (lex ys zs) (lex xs zs) (keys.rank x y) (keys.rank y z) refl refl (lex-rises xs ys zs) h k
+lex-rises (x ∷ xs) (y ∷ ys) (z ∷ zs) h k = lex-steps x y z (lex xs ys) (lex ys zs) (lex xs zs) (nat_cmp x y) (nat_cmp y z) refl refl (lex-rises xs ys zs) h k
 
 -- the test of the fields, joined from the right
 abbrev pub alike_next : ℕ → List ℕ → ℕ → List ℕ → Bool
@@ -68,10 +67,10 @@ alike (x ∷ xs) [] = false
 alike (x ∷ xs) (y ∷ ys) = alike_next x xs y ys
 
 next_agrees : (x : ℕ) (xs : List ℕ) (y : ℕ) (ys : List ℕ) → is_eq (lex (x ∷ xs) (y ∷ ys)) ≡ alike_next x xs y ys
-next_agrees x [] y [] = then_eq (keys.rank x y) Equal ∙ and-true (is_eq (keys.rank x y)) ∙ unsigned_tied x y
-next_agrees x [] y (z ∷ zs) = then_eq (keys.rank x y) Less ∙ and-false (is_eq (keys.rank x y))
-next_agrees x (w ∷ ws) y [] = then_eq (keys.rank x y) Greater ∙ and-false (is_eq (keys.rank x y))
-next_agrees x (w ∷ ws) y (z ∷ zs) = then_eq (keys.rank x y) (lex (w ∷ ws) (z ∷ zs)) ∙ (λ i. unsigned_tied x y i && next_agrees w ws z zs i)
+next_agrees x [] y [] = then_eq (nat_cmp x y) Equal ∙ and-true (is_eq (nat_cmp x y)) ∙ unsigned_tied x y
+next_agrees x [] y (z ∷ zs) = then_eq (nat_cmp x y) Less ∙ and-false (is_eq (nat_cmp x y))
+next_agrees x (w ∷ ws) y [] = then_eq (nat_cmp x y) Greater ∙ and-false (is_eq (nat_cmp x y))
+next_agrees x (w ∷ ws) y (z ∷ zs) = then_eq (nat_cmp x y) (lex (w ∷ ws) (z ∷ zs)) ∙ (λ i. unsigned_tied x y i && next_agrees w ws z zs i)
 
 pub lex-agrees : (xs ys : List ℕ) → is_eq (lex xs ys) ≡ alike xs ys
 lex-agrees [] [] = refl
@@ -95,32 +94,30 @@ alike_equal [] (y ∷ ys) h = absurd (false≢true h)
 alike_equal (x ∷ xs) [] h = absurd (false≢true h)
 alike_equal (x ∷ xs) (y ∷ ys) h = next_equal x xs y ys h
 
--- what a derived `cmp` says of its answer
-abbrev pub ToldNext : ℕ → List ℕ → ℕ → List ℕ → Ordering → Type 0
-ToldNext x [] y [] o = MatchOrdering o (x < y) (x ≡ y) (y < x)
-ToldNext x [] y (z ∷ zs) o = ⊥
-ToldNext x (w ∷ ws) y [] o = ⊥
-ToldNext x (w ∷ ws) y (z ∷ zs) o = ((x < y) × (o ≡ Less)) ⊎ (((y < x) × (o ≡ Greater)) ⊎ ((x ≡ y) × ToldNext w ws z zs o))
+-- what a derived `cmp` answers
+abbrev pub told_next : ℕ → List ℕ → ℕ → List ℕ → Ordering
+told_next x [] y [] = nat_cmp x y
+told_next x [] y (z ∷ zs) = ordering_then (nat_cmp x y) Less
+told_next x (w ∷ ws) y [] = ordering_then (nat_cmp x y) Greater
+told_next x (w ∷ ws) y (z ∷ zs) = ordering_then (nat_cmp x y) (told_next w ws z zs)
 
-abbrev pub Told : List ℕ → List ℕ → Ordering → Type 0
-Told [] [] o = o ≡ Equal
-Told [] (y ∷ ys) o = ⊥
-Told (x ∷ xs) [] o = ⊥
-Told (x ∷ xs) (y ∷ ys) o = ToldNext x xs y ys o
+abbrev pub told : List ℕ → List ℕ → Ordering
+told [] [] = Equal
+told [] (y ∷ ys) = Less
+told (x ∷ xs) [] = Greater
+told (x ∷ xs) (y ∷ ys) = told_next x xs y ys
 
-next_says : (x : ℕ) (xs : List ℕ) (y : ℕ) (ys : List ℕ) (o : Ordering) → ToldNext x xs y ys o → o ≡ lex (x ∷ xs) (y ∷ ys)
-next_says x [] y [] o h = (nat_cmp_total.says x y o h) ∙ sym (then_equal (keys.rank x y))
-next_says x [] y (z ∷ zs) o h = absurd h
-next_says x (w ∷ ws) y [] o h = absurd h
-next_says x (w ∷ ws) y (z ∷ zs) o (inl h) = h.1 ∙ ap (λ k. ordering_then k (lex (w ∷ ws) (z ∷ zs))) (nat_cmp_total.says x y Less h.0)
-next_says x (w ∷ ws) y (z ∷ zs) o (inr (inl h)) = h.1 ∙ ap (λ k. ordering_then k (lex (w ∷ ws) (z ∷ zs))) (nat_cmp_total.says x y Greater h.0)
-next_says x (w ∷ ws) y (z ∷ zs) o (inr (inr h)) = next_says w ws z zs o h.1 ∙ ap (λ k. ordering_then k (lex (w ∷ ws) (z ∷ zs))) (nat_cmp_total.says x y Equal h.0)
+next_says : (x : ℕ) (xs : List ℕ) (y : ℕ) (ys : List ℕ) → told_next x xs y ys ≡ lex (x ∷ xs) (y ∷ ys)
+next_says x [] y [] = sym (then_equal (nat_cmp x y))
+next_says x [] y (z ∷ zs) = refl
+next_says x (w ∷ ws) y [] = refl
+next_says x (w ∷ ws) y (z ∷ zs) = ap (ordering_then (nat_cmp x y)) (next_says w ws z zs)
 
-pub lex_says : (xs ys : List ℕ) (o : Ordering) → Told xs ys o → o ≡ lex xs ys
-lex_says [] [] o h = h
-lex_says [] (y ∷ ys) o h = absurd h
-lex_says (x ∷ xs) [] o h = absurd h
-lex_says (x ∷ xs) (y ∷ ys) o h = next_says x xs y ys o h
+pub lex_says : (xs ys : List ℕ) → told xs ys ≡ lex xs ys
+lex_says [] [] = refl
+lex_says [] (y ∷ ys) = refl
+lex_says (x ∷ xs) [] = refl
+lex_says (x ∷ xs) (y ∷ ys) = next_says x xs y ys
 
 -- the order of values by their fields, which make the value again
 abbrev pub by_fields : {T : Type 0} (fields : T → List ℕ) (made : List ℕ → T) → ((x : T) → made (fields x) ≡ x) → Order T

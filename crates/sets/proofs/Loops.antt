@@ -1,7 +1,7 @@
 -- Lemmas in the shapes that the functions' needs have.
-use Rattle.std.proofs.Common.{◌≡◌, ℕ, zero, suc, ◌+◌, ◌-◌, ◌<◌, ◌≤◌, Bool, true, false, cond, not, ◌||◌, List, [], ◌∷◌, ◌++◌, length, get_or, take, drop, set, Decides, Ordering, Less, Equal, Greater, sym, refl, ap, ◌∙◌, subst, ⊎_elim, append_assoc, add-one, arith}
+use Rattle.std.proofs.Common.{◌≡◌, ◌==◌, ℕ, zero, suc, ◌+◌, ◌-◌, ◌<◌, ◌≤◌, Bool, true, false, cond, not, ◌||◌, List, [], ◌∷◌, ◌++◌, length, get_or, take, drop, set, Decides, Ordering, Less, Equal, Greater, sym, refl, ap, ◌∙◌, subst, ⊎_elim, append_assoc, add-one, arith}
 use Rattle.std.specs.Ordering.{is_eq, is_lt, is_gt, ordering_index}
-use Rattle.std.specs.List.Sorted.{IsNonDecreasingBy, IsPartitionPoint, IsSortedWithin}
+use Rattle.std.specs.List.Sorted.{IsNonDecreasingBy, IsPartitionPoint, IsSortedWithin, IsSorted}
 use Rattle.std.specs.List.{AllByRecursion as All}
 use Rattle.std.proofs.ByRecursion.{All-get_or, All-from_get_or}
 use Rattle.std.proofs.lemmas.List.{at_drop_more, at_drop_all, drop_more, drop_all, drop-drop, drop-set-lt, get_or-drop, get_or_read, get_or-set_same, length-set, length-take-le, append-nil, take-append-drop, take_at, take_more_set}
@@ -16,22 +16,20 @@ use Rattle.sets.proofs.Squeezing.{climbs, up_from_climbs, set-rises, set-some}
 
 -- ---- what a comparison tells
 
-equal_told : (k : Ordering) (t : Bool) → Decides t (k ≡ Equal) → is_eq k ≡ t
-equal_told Less true d = ap is_eq (d.0 refl)
-equal_told Less false d = refl
-equal_told Equal t d = sym (d.1 refl)
-equal_told Greater true d = ap is_eq (d.0 refl)
-equal_told Greater false d = refl
+equal_told : (k : Ordering) → is_eq k ≡ (ordering_index k == 1)
+equal_told Less = refl
+equal_told Equal = refl
+equal_told Greater = refl
 
-pub same-told : {A : Type 0} (o : Order A) (x y : A) (k : Ordering) (t : Bool) → k ≡ o.rank x y → Decides t (k ≡ Equal) → o.same x y ≡ t
-same-told o x y k t e d = sym (o.agrees x y) ∙ ap is_eq (sym e) ∙ equal_told k t d
+pub same-told : {A : Type 0} (o : Order A) (x y : A) (k : Ordering) (t : Bool) → k ≡ o.rank x y → t ≡ (ordering_index k == 1) → o.same x y ≡ t
+same-told o x y k t e d = sym (o.agrees x y) ∙ ap is_eq (sym e) ∙ equal_told k ∙ sym d
 
 twice_not : (b : Bool) → not (not b) ≡ b
 twice_not true = refl
 twice_not false = refl
 
-pub differ_told : {A : Type 0} (o : Order A) (x y : A) (k : Ordering) (t s : Bool) → k ≡ o.rank x y → ((b : Bool) × Decides b (k ≡ Equal) × (t ≡ not b)) → t ≡ s → o.same x y ≡ not s
-differ_told o x y k t s e d u = same-told o x y k d.0 e d.1 ∙ sym (twice_not d.0) ∙ ap not (sym d.2 ∙ u)
+pub differ_told : {A : Type 0} (o : Order A) (x y : A) (k : Ordering) (t s : Bool) → k ≡ o.rank x y → t ≡ not (ordering_index k == 1) → t ≡ s → o.same x y ≡ not s
+differ_told o x y k t s e d u = same-told o x y k (ordering_index k == 1) e refl ∙ sym (twice_not (ordering_index k == 1)) ∙ ap not (sym d ∙ u)
 
 -- ---- a scan for an element
 
@@ -173,12 +171,19 @@ module _ {A : Type 0} (o : Order A) where
   lacks_all w [] h = refl
   lacks_all w (x ∷ xs) h = λ j. h.0 j || lacks_all w xs h.1 j
 
-  pub search_lacks : (R : A → A → Ordering → Type 0) (says : (x y : A) (k : Ordering) → R x y k → k ≡ o.rank x y) (xs : List A) (w : A) (i : ℕ) → (IsNonDecreasingBy (λ y. ordering_index (o.rank y w)) xs → IsPartitionPoint (λ y. o.rank y w ≡ Less) (λ y. o.rank y w ≡ Greater) xs i) → Rising o.rank xs → some_of (λ y. o.same y w) xs ≡ false
+  -- sorted by a function that answers what the rank does
+  pub sorted_by_rank : (R : A → A → Ordering) → ((x y : A) → R x y ≡ o.rank x y) → (xs : List A) → IsSorted R xs → IsSorted o.rank xs
+  sorted_by_rank R says xs h = subst {A = A → A → Ordering} (λ Q. IsSorted Q xs) (λ j x y. says x y j) h
+
+  sorted_by : (R : A → A → Ordering) → ((x y : A) → R x y ≡ o.rank x y) → (xs : List A) → IsSorted o.rank xs → IsSorted R xs
+  sorted_by R says xs h = subst {A = A → A → Ordering} (λ Q. IsSorted Q xs) (λ j x y. sym (says x y) j) h
+
+  pub search_lacks : (R : A → A → Ordering) (says : (x y : A) → R x y ≡ o.rank x y) (xs : List A) (w : A) (i : ℕ) → (IsNonDecreasingBy (λ y. ordering_index (R y w)) xs → IsPartitionPoint (λ y. R y w ≡ Less) (λ y. R y w ≡ Greater) xs i) → Rising o.rank xs → some_of (λ y. o.same y w) xs ≡ false
   search_lacks R says xs w i h r =
       let u = up_from_climbs o xs (climbs o xs r) in
-      let p = h (searchable_from_sorted (total o R says) (λ x. x) xs w (ascends xs u)) in
+      let p = h (searchable_from_sorted (total o R says) (λ x. x) xs w (sorted_by R says xs (ascends xs u))) in
       lacks_all w xs (All-from_get_or (λ y. o.same y w ≡ false) xs w (λ k l.
       ⊎_elim
-      (λ b. sym (o.agrees (get_or xs k w) w) ∙ ap is_eq (p.0 k w (omega arith) b))
-      (λ b. sym (o.agrees (get_or xs k w) w) ∙ ap is_eq (p.1 k w b l))
+      (λ b. sym (o.agrees (get_or xs k w) w) ∙ ap is_eq (sym (says (get_or xs k w) w) ∙ p.0 k w (omega arith) b))
+      (λ b. sym (o.agrees (get_or xs k w) w) ∙ ap is_eq (sym (says (get_or xs k w) w) ∙ p.1 k w b l))
       (cases_lt k i)))

@@ -88,11 +88,12 @@ module _ {A : Type 0} (o : Order A) where
       by_rank x y (UpTo x z) (λ l. upto_less x z (less_upto x y z l k)) (λ e. subst (λ w. UpTo w z) (sym e) k) (λ g. absurd (true≢false (sym (ap is_gt g) ∙ h)))
 
   -- the order as the library's sort and search take it
-  abbrev pub total : (R : A → A → Ordering) → ((x y : A) (k : Ordering) → R x y k → k ≡ o.rank x y) → IsTotalOrder R
-  total R says = record {
-    cmp = o.rank;
-    says = says;
-    flip = o.flips;
+  total_rank : IsTotalOrder o.rank
+  total_rank = record {
+    antisymm = o.flips;
     trans = o.rises;
-    alike = λ x y z e. ap (λ w. o.rank w z) (tied x y e);
+    congr = λ x y z e. ap (λ w. o.rank w z) (tied x y e);
   }
+
+  pub total : (R : A → A → Ordering) → ((x y : A) → R x y ≡ o.rank x y) → IsTotalOrder R
+  total R says = subst IsTotalOrder (λ i x y. sym (says x y) i) total_rank

@@ -11,7 +11,7 @@ pub trait Ordered: Ord + Copy {
     ghost same: { Self → Self → Bool };
 
     // What `cmp` answers.
-    ghost says: { (x y : Self) (o : Ordering) → (o ≡ Self.Ord.cmp x y) → o ≡ rank x y };
+    ghost says: { (x y : Self) → Self.Ord.cmp x y ≡ rank x y };
 
     // Above is the converse of below.
     ghost flips: { (x y : Self) → rank x y ≡ ordering_reverse (rank y x) };

@@ -13,7 +13,7 @@ pub fn make_set<T: Ordered>(items: &mut [T]) -> usize
     ensures rises { Rising T.Ordered.rank (take result items.new) }
     ensures members { (x : T) → some_of (λ y. T.Ordered.same y x) (take result items.new) ≡ some_of (λ y. T.Ordered.same y x) items.old }
 {
-    items.sort();
+    items.sort_unstable();
     squeeze(items)
 }
 

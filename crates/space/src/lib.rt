@@ -1,3 +1,5 @@
+#![tactic(auto)]
+
 // What an address space is, and the spaces that stand at the bottom of a stack.
 ghost use Rattle.std.specs.Prelude.{◌≡◌, length};
 ghost use Rattle.model.specs.Names.{holds};

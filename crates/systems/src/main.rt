@@ -1,3 +1,5 @@
+#![tactic(auto)]
+
 // Loads the nets of three published systems, and looks them up at addresses whose names the published paths give.
 mod look;
 mod looks;

@@ -1,3 +1,5 @@
+#![tactic(auto)]
+
 // The table of one net: its blocks, overlays and entry, with every walk bounded, and the edits that keep it so.
 pub mod edits;
 pub mod making;

@@ -1,3 +1,5 @@
+#![tactic(auto)]
+
 // Looks addresses up in a flat table: rows from standard input, an empty line, then one address a line.
 mod answer;
 mod input;

@@ -1,3 +1,5 @@
+#![tactic(auto)]
+
 // Hexadecimal text: digits, numbers of a fixed width, and the rows of a flat table.
 pub mod digit;
 pub mod laws;

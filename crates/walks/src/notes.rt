@@ -1,5 +1,6 @@
 use lists::ArrayVec;
 use model::names::Name;
+use std::alloc::AllocError;
 
 // What a walk notes: a name that a node of the net accepts, or an address that arrives in the space below.
 #[derive(Clone, Copy)]
@@ -12,6 +13,12 @@ pub enum Note {
 pub struct Notes {
     pub items: ArrayVec<Note, 64>,
     pub span: u64,
+}
+
+impl Clone for Notes {
+    fn clone(&self) -> Result<Notes, AllocError> {
+        Ok(*self)
+    }
 }
 
 impl Copy for Notes {}

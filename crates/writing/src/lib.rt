@@ -1,3 +1,5 @@
+#![tactic(auto)]
+
 // What a net keeps, written as lines of frames.
 mod digits;
 mod line;

@@ -18,5 +18,5 @@ order g = record {
 pub returns-in-Err : goal.returns-in-Err
 returns-in-Err g c = record {
   there = tt;
-  missing = search_lacks (order g) (λ x' y' r'. r' ≡ g.T.Ord.cmp x' y') g.met.T.Ordered.says c.args.items.now c.args.wanted c.in-Err.field-0 (c.in-Err.ensures.position (total (order g) (λ x' y' r'. r' ≡ g.T.Ord.cmp x' y') g.met.T.Ordered.says));
+  missing = search_lacks (order g) g.T.Ord.cmp g.met.T.Ordered.says c.args.items.now c.args.wanted c.in-Err.field-0 c.in-Err.ensures.position;
 }

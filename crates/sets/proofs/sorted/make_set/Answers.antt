@@ -1,10 +1,10 @@
 use Rattle.sets.specs.Orders.{Order}
-use Rattle.sets.proofs.Loops.{set_count, set-held, front-rises, front-has}
+use Rattle.sets.proofs.Loops.{set_count, set-held, front-rises, front-has, sorted_by_rank}
 use Rattle.sets.proofs.Ranking.{total}
 use Rattle.sets.proofs.Sorting.{sorted-is, up_from_ascends}
 use Rattle.sets.proofs.sorted.make_set.Given as given
 use Rattle.sets.proofs.sorted.make_set.Goals as goal
-use Rattle.std.proofs.Common.{◌≡◌}
+use Rattle.std.proofs.Common.{refl}
 
 abbrev order : (g : given.Over) → Order g.row.T.Denot
 order g = record {
@@ -18,10 +18,10 @@ order g = record {
 
 pub returns : goal.returns
 returns g c =
-    let up = up_from_ascends (order g) c.sort.new.self _ c.sort.ensures.len (c.sort.ensures.sorted (total (order g) (λ x' y' r'. r' ≡ g.T.Ord.cmp x' y') g.met.T.Ordered.says)) in
-    let e = sorted-is (order g) c.args.items.now c.sort.new.self c.sort.ensures.permutation up in
-    let held = set-held (order g) c.args.items.now c.sort.new.self c.squeeze.new.items c.squeeze.result e c.squeeze.ensures.held in
-    let count = set_count (order g) c.args.items.now c.sort.new.self c.squeeze.result e c.squeeze.ensures.count in
+    let up = up_from_ascends (order g) c.sort_unstable.new.self _ refl (sorted_by_rank (order g) g.T.Ord.cmp g.met.T.Ordered.says c.sort_unstable.new.self c.sort_unstable.ensures.sorted) in
+    let e = sorted-is (order g) c.args.items.now c.sort_unstable.new.self c.sort_unstable.ensures.permutation up in
+    let held = set-held (order g) c.args.items.now c.sort_unstable.new.self c.squeeze.new.items c.squeeze.result e c.squeeze.ensures.held in
+    let count = set_count (order g) c.args.items.now c.sort_unstable.new.self c.squeeze.result e c.squeeze.ensures.count in
     record {
       count = count;
       held = held;

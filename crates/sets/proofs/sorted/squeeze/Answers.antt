@@ -1,4 +1,4 @@
-use Rattle.std.proofs.Common.{true, false, arith}
+use Rattle.std.proofs.Common.{◌∙◌, true, false, arith}
 use Rattle.sets.specs.Orders.{Order}
 use Rattle.sets.proofs.Loops.{differ_told, squeeze_start, squeeze_skip, squeeze_take, squeeze_count, squeeze_held}
 use Rattle.sets.proofs.sorted.squeeze.Given as given
@@ -22,9 +22,9 @@ pub loop-i-preserved : goal.loop-i-preserved
 loop-i-preserved g c =
     elim c.if-ne.branch [
       | then-ne w ↦ rw (w.items-is, w.used-is) (squeeze_take g.T.Ordered.same c.args.items.now c.loop-i.items c.loop-i.i c.loop-i.used c.index-items-i.result c.index-items-used.result c.loop-i.invariant c.loop-i-test.true c.index-items-i.is c.index-items-used.is
-          (differ_told (order g) c.index-items-used.result c.index-items-i.result c.cmp.result c.ne.result true (g.met.T.Ordered.says _ _ _ c.cmp.ensures) c.ne.ensures w.if-ne.true))
+          (differ_told (order g) c.index-items-used.result c.index-items-i.result c.cmp.result c.ne.result true (c.cmp.ensures ∙ g.met.T.Ordered.says _ _) c.ne.ensures w.if-ne.true))
       | else-ne w ↦ rw (w.items-is, w.used-is) (squeeze_skip g.T.Ordered.same c.args.items.now c.loop-i.items c.loop-i.i c.loop-i.used c.index-items-i.result c.index-items-used.result c.loop-i.invariant c.loop-i-test.true c.index-items-i.is c.index-items-used.is
-          (differ_told (order g) c.index-items-used.result c.index-items-i.result c.cmp.result c.ne.result false (g.met.T.Ordered.says _ _ _ c.cmp.ensures) c.ne.ensures w.if-ne.false))
+          (differ_told (order g) c.index-items-used.result c.index-items-i.result c.cmp.result c.ne.result false (c.cmp.ensures ∙ g.met.T.Ordered.says _ _) c.ne.ensures w.if-ne.false))
     ]
 
 pub returns : goal.returns

@@ -8,10 +8,10 @@ use Rattle.blocks.proofs.Asking.{refused_early}
 use Rattle.blocks.proofs.Changes.{added, apart_added, swap-accept}
 use Rattle.blocks.proofs.stored.Blocks.add_accept.Goals as goal
 
-pub invariant-of-self : goal.invariant-of-self
-invariant-of-self c =
+pub invariant_of-self : goal.invariant_of-self
+invariant_of-self c =
     let v = c.args.self.now.valid in
-    ((v.0, v.1, apart_added accept_block same_accept c.in-ok-x.x (held c.args.self.now.accepts) (held c.add.new.list) c.add.result swap-accept 64 c.add.ensures v.2, v.3, v.4), tt)
+    record { valid = (v.0, v.1, apart_added accept_block same_accept c.in-ok-x.x (held c.args.self.now.accepts) (held c.add.new.list) c.add.result swap-accept 64 c.add.ensures v.2, v.3, v.4) }
 
 pub returns-in-err-x : goal.returns-in-err-x
 returns-in-err-x c =

@@ -8,10 +8,10 @@ use Rattle.blocks.proofs.Asking.{refused_early}
 use Rattle.blocks.proofs.Changes.{added, apart_added, swap-map}
 use Rattle.blocks.proofs.stored.Blocks.add_map.Goals as goal
 
-pub invariant-of-self : goal.invariant-of-self
-invariant-of-self c =
+pub invariant_of-self : goal.invariant_of-self
+invariant_of-self c =
     let v = c.args.self.now.valid in
-    ((v.0, v.1, v.2, apart_added map_block same_map c.in-ok-x.x (held c.args.self.now.maps) (held c.add.new.list) c.add.result swap-map 128 c.add.ensures v.3, v.4), tt)
+    record { valid = (v.0, v.1, v.2, apart_added map_block same_map c.in-ok-x.x (held c.args.self.now.maps) (held c.add.new.list) c.add.result swap-map 128 c.add.ensures v.3, v.4) }
 
 pub returns-in-err-x : goal.returns-in-err-x
 returns-in-err-x c =

@@ -8,10 +8,10 @@ use Rattle.blocks.proofs.Asking.{refused_early}
 use Rattle.blocks.proofs.Changes.{dropped, apart_dropped}
 use Rattle.blocks.proofs.stored.Blocks.drop_map.Goals as goal
 
-pub invariant-of-self : goal.invariant-of-self
-invariant-of-self c =
+pub invariant_of-self : goal.invariant_of-self
+invariant_of-self c =
     let v = c.args.self.now.valid in
-    ((v.0, v.1, v.2, apart_dropped map_block same_map c.in-ok-x.x (held c.args.self.now.maps) (held c.take-out.new.list) c.take-out.result c.take-out.ensures v.3, v.4), tt)
+    record { valid = (v.0, v.1, v.2, apart_dropped map_block same_map c.in-ok-x.x (held c.args.self.now.maps) (held c.take-out.new.list) c.take-out.result c.take-out.ensures v.3, v.4) }
 
 pub returns-in-err-x : goal.returns-in-err-x
 returns-in-err-x c =

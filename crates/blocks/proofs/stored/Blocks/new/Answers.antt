@@ -5,6 +5,6 @@ use Rattle.blocks.specs.Shape.{accept_block, map_block}
 use Rattle.blocks.proofs.Changes.{all_same}
 use Rattle.blocks.proofs.stored.Blocks.new.Goals as goal
 
-pub invariant-of-result : goal.invariant-of-result
-invariant-of-result c =
-    ((omega arith, all_same 32 33, ap (λ zs. apart same_accept (map accept_block zs)) c.new.ensures, ap (λ zs. apart same_map (map map_block zs)) c.new-2.ensures, refl), tt)
+pub invariant_of-result : goal.invariant_of-result
+invariant_of-result c =
+    record { valid = (omega arith, all_same 32 33, ap (λ zs. apart same_accept (map accept_block zs)) c.new.ensures, ap (λ zs. apart same_map (map map_block zs)) c.new-2.ensures, refl) }

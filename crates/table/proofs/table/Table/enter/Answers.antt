@@ -4,8 +4,8 @@ use Rattle.blocks.specs.Shape.{kept}
 use Rattle.table.proofs.Deciding.{settles_at_once, enter-keeps}
 use Rattle.table.proofs.table.Table.enter.Goals as goal
 
-pub invariant-of-self : goal.invariant-of-self
-invariant-of-self c = (enter-keeps (kept c.args.self.now.blocks) (kept c.set-entry.new.self) c.args.node c.set-entry.result c.set-entry.ensures c.args.self.now.bounded, tt)
+pub invariant_of-self : goal.invariant_of-self
+invariant_of-self c = record { bounded = enter-keeps (kept c.args.self.now.blocks) (kept c.set-entry.new.self) c.args.node c.set-entry.result c.set-entry.ensures c.args.self.now.bounded }
 
 pub returns : goal.returns
 returns c = settles_at_once (kept c.args.self.now.blocks) (enter c.args.node) (kept c.set-entry.new.self) c.set-entry.result refl c.set-entry.ensures
