@@ -12,21 +12,21 @@ use Rattle.flatten.proofs.count.measure.Goals as goal
 
 pub runs-init : goal.runs-init
 runs-init g c =
-    let k = c.in-ok-held.ensures in
-    measured_start (lists (g.S.Space.means c.args.space.now).shape) c.hold.new.scratch c.in-ok-held.held k.0 k.1
+    let k = c.in_ok-held.ensures in
+    measured_start (lists (g.S.Space.means c.args.space.now).shape) c.hold.new.scratch c.in_ok-held.held k.0 k.1
 
-pub returns-in-err-held : goal.returns-in-err-held
-returns-in-err-held g c =
+pub returns-in_err-held : goal.returns-in_err-held
+returns-in_err-held g c =
     let list = lists (g.S.Space.means c.args.space.now).shape in
-    let p = err_from_is_err_and c.from-residual.result c.from-residual.ensures.1 in
-    let q = c.in-err-held.ensures in
+    let p = err_from_is_err_and c.from_residual.result c.from_residual.ensures.1 in
+    let q = c.in_err-held.ensures in
     rw (p.1, p.2) (q.0, fits_not list (length c.args.scratch.now) top 0 (omega arith) q.1)
 
-pub returns-in-err-extend : goal.returns-in-err-extend
-returns-in-err-extend g c =
+pub returns-in_err-extend : goal.returns-in_err-extend
+returns-in_err-extend g c =
     let list = lists (g.S.Space.means c.args.space.now).shape in
-    let p = err_from_is_err_and c.from-residual-in-err-extend.result c.from-residual-in-err-extend.ensures.1 in
-    let q = c.in-err-extend.ensures in
+    let p = err_from_is_err_and c.from_residual-in_err-extend.result c.from_residual-in_err-extend.ensures.1 in
+    let q = c.in_err-extend.ensures in
     let s = c.runs.invariant.size in
     let e : length c.hold.new.scratch ≡ length c.args.scratch.now = omega arith in
     let l = q.1.2 in
@@ -39,8 +39,8 @@ returns-in-None g c =
     let e : length c.hold.new.scratch ≡ length c.args.scratch.now = omega arith in
     let f : length c.runs.scratch ≡ length c.hold.new.scratch = c.runs.invariant.size in
     let k : Ended list c.runs.held.address 18446744073709551615 (length c.runs.scratch) =
-    MatchOption-at_none {o = c.in-ok-extend.field-0} (Ended list c.runs.held.address 18446744073709551615 (length c.runs.scratch)) (λ (s : Stretch). (c.runs.held.address < s.address) × Ended list c.runs.held.address (s.address - 1) room × Held list c.extend.new.scratch s)
-    c.in-None.is c.in-ok-extend.ensures in
+    MatchOption-at_none {o = c.in_ok-extend.field-0} (Ended list c.runs.held.address 18446744073709551615 (length c.runs.scratch)) (λ (s : Stretch). (c.runs.held.address < s.address) × Ended list c.runs.held.address (s.address - 1) room × Held list c.extend.new.scratch s)
+    c.in-None.is c.in_ok-extend.ensures in
     subst (λ r. (c.runs.total + c.distinct.result ≡ needed list top) × (fits list r top ≡ true)) e
     (measured_all list (length c.hold.new.scratch) c.runs.scratch c.runs.held c.runs.total c.runs.invariant c.distinct.result c.distinct.ensures
     (subst (λ r. Ended list c.runs.held.address 18446744073709551615 r) f k))
@@ -52,6 +52,6 @@ runs-preserved g c =
     let f : length c.runs.scratch ≡ length c.hold.new.scratch = c.runs.invariant.size in
     let Q : ℕ → Stretch → Type 0 = λ r s. (c.runs.held.address < s.address) × Ended list c.runs.held.address (s.address - 1) r × Held list c.extend.new.scratch s in
     let k : Q room c.in-Some.next =
-    MatchOption-at_some {o = c.in-ok-extend.field-0} (Ended list c.runs.held.address 18446744073709551615 room) (Q room) c.in-Some.next c.in-Some.is c.in-ok-extend.ensures in
+    MatchOption-at_some {o = c.in_ok-extend.field-0} (Ended list c.runs.held.address 18446744073709551615 room) (Q room) c.in-Some.next c.in-Some.is c.in_ok-extend.ensures in
     measured_more list (length c.hold.new.scratch) c.runs.scratch c.runs.held c.runs.total c.runs.invariant c.distinct.result c.distinct.ensures
     c.extend.new.scratch c.in-Some.next (omega arith) (omega (arith, f)) (subst (λ r. Q r c.in-Some.next) f k)

@@ -33,25 +33,25 @@ runs-init g c =
     let k = c.in-Ok.ensures in
     filled_start (lists (g.S.Space.means c.args.space.now).shape) c.args.table.now c.hold.new.scratch c.in-Ok.first k.0 k.1
 
-pub write-rows-more-requires : goal.write-rows-more-requires
-write-rows-more-requires g c =
+pub write_rows-more-requires : goal.write_rows-more-requires
+write_rows-more-requires g c =
     let q = filled-room (lists (g.S.Space.means c.args.space.now).shape) _ c.args.table.now c.runs.scratch c.runs.held c.runs.n c.runs.table c.runs.invariant c.requires.room in
     let e = ap length (take_rest c.runs.table c.runs.n) in
     let d = length-drop c.runs.n c.runs.table in
     omega (arith, q, e, d)
 
-pub overflow-add-end : goal.overflow-add-end
-overflow-add-end g c =
+pub overflow_add-end : goal.overflow_add-end
+overflow_add-end g c =
     let q = filled-room (lists (g.S.Space.means c.args.space.now).shape) _ c.args.table.now c.runs.scratch c.runs.held c.runs.n c.runs.table c.runs.invariant c.requires.room in
-    let w = c.write-rows-more.ensures.0 in
+    let w = c.write_rows-more.ensures.0 in
     omega (arith, q, w)
 
-pub slice-bounds-close-rows-end : goal.slice-bounds-close-rows-end
-slice-bounds-close-rows-end g c =
+pub slice_bounds-close_rows-end : goal.slice_bounds-close_rows-end
+slice_bounds-close_rows-end g c =
     let q = filled-room (lists (g.S.Space.means c.args.space.now).shape) _ c.args.table.now c.runs.scratch c.runs.held c.runs.n c.runs.table c.runs.invariant c.requires.room in
-    let w = c.write-rows-more.ensures.0 in
+    let w = c.write_rows-more.ensures.0 in
     let l : c.runs.n ≤ length c.runs.table = omega (arith, q) in
-    let e = size_1 c.runs.n c.runs.table c.write-rows-more.new.part l c.write-rows-more.auto.part in
+    let e = size_1 c.runs.n c.runs.table c.write_rows-more.new.part l c.write_rows-more.auto.part in
     omega (arith, q, w, e)
 
 pub returns-in-None : goal.returns-in-None
@@ -61,17 +61,17 @@ returns-in-None g c =
     MatchOption-at_none (Ended list c.runs.held.address 18446744073709551615 (length c.runs.scratch))
     (λ (s : Stretch). (c.runs.held.address < s.address) × Ended list c.runs.held.address (s.address - 1) (length c.runs.scratch) × Held list c.extend.new.scratch s)
     c.in-None.is c.in-Ok-extend.ensures in
-    let w = c.write-rows-more.ensures in
+    let w = c.write_rows-more.ensures in
     let p = filled-last list _ c.args.table.now c.runs.scratch c.runs.held c.runs.n c.runs.table c.runs.invariant c.requires.room
-    c.write-rows-more.result c.write-rows-more.new.part w.0 w.1 18446744073709551615 c.close-rows.new.part c.close-rows.ensures k.run refl in
+    c.write_rows-more.result c.write_rows-more.new.part w.0 w.1 18446744073709551615 c.close_rows.new.part c.close_rows.ensures k.run refl in
     record { count = p.0; flat = p.1; kept = p.2 }
 
-pub slice-bounds-close-rows-end-in-Some : goal.slice-bounds-close-rows-end-in-Some
-slice-bounds-close-rows-end-in-Some g c =
+pub slice_bounds-close_rows-end-in-Some : goal.slice_bounds-close_rows-end-in-Some
+slice_bounds-close_rows-end-in-Some g c =
     let q = filled-room (lists (g.S.Space.means c.args.space.now).shape) _ c.args.table.now c.runs.scratch c.runs.held c.runs.n c.runs.table c.runs.invariant c.requires.room in
-    let w = c.write-rows-more.ensures.0 in
+    let w = c.write_rows-more.ensures.0 in
     let l : c.runs.n ≤ length c.runs.table = omega (arith, q) in
-    let e = size_1 c.runs.n c.runs.table c.write-rows-more.new.part l c.write-rows-more.auto.part in
+    let e = size_1 c.runs.n c.runs.table c.write_rows-more.new.part l c.write_rows-more.auto.part in
     omega (arith, q, w, e)
 
 pub runs-preserved : goal.runs-preserved
@@ -82,8 +82,8 @@ runs-preserved g c =
     MatchOption-at_some (Ended list c.runs.held.address 18446744073709551615 (length c.runs.scratch))
     (λ (s : Stretch). (c.runs.held.address < s.address) × Ended list c.runs.held.address (s.address - 1) (length c.runs.scratch) × Held list c.extend.new.scratch s)
     t c.in-Some.is c.in-Ok-extend.ensures in
-    let w = c.write-rows-more.ensures in
+    let w = c.write_rows-more.ensures in
     let f : length c.runs.scratch ≡ length c.hold.new.scratch = c.runs.invariant.size in
     filled_more list (length c.hold.new.scratch) c.args.table.now c.runs.scratch c.runs.held c.runs.n c.runs.table c.runs.invariant c.requires.room
-    c.write-rows-more.result c.write-rows-more.new.part w.0 w.1 (t.address - 1) c.close-rows-in-Some.new.part c.close-rows-in-Some.ensures k.1.run
+    c.write_rows-more.result c.write_rows-more.new.part w.0 w.1 (t.address - 1) c.close_rows-in-Some.new.part c.close_rows-in-Some.ensures k.1.run
     c.extend.new.scratch t refl k.0 (omega (arith, f)) k.2

@@ -4,5 +4,5 @@ use Rattle.frames.proofs.reader.read_line.Goals as goal
 
 pub returns : goal.returns
 returns c =
-    line-told c.args.kinds c.args.line.now (seen c.new-reader.result) (seen c.take-all.new.self) c.finish.result
-    c.new-reader.ensures c.take-all.ensures c.finish.ensures
+    line-told c.args.kinds c.args.line.now (seen c.new-reader.result) (seen c.take_all.new.self) c.finish.result
+    c.new-reader.ensures c.take_all.ensures c.finish.ensures

@@ -5,7 +5,7 @@ use Rattle.netfile.proofs.flat.push_rows.Goals as goal
 pub loop-row-preserved : goal.loop-row-preserved
 loop-row-preserved c =
     rows_more c.args.rows.now c.loop-row.row-index _ (string_bytes c.loop-row.out) c.loop-row.invariant _
-    (string_bytes c.push-row.new.out) (string_bytes c.push-str.new.self) c.loop-row-test.true c.in-ok-push-row.ensures c.in-ok-push-str.ensures.bytes
+    (string_bytes c.push_row.new.out) (string_bytes c.push_str.new.self) c.loop-row-test.true c.in_ok-push_row.ensures c.in_ok-push_str.ensures.bytes
 
 pub returns : goal.returns
 returns c = rows-done c.args.rows.now c.loop-row.row-index _ (string_bytes c.loop-row.out) c.loop-row.invariant c.loop-row-test.false

@@ -9,16 +9,16 @@ use Rattle.netlines.proofs.answer.obey.Goals as goal
 pub unreachable-requires : goal.unreachable-requires
 unreachable-requires g c =
     let m = (net_means g.B.Space.means c.args.net.now).shape in
-    let e = c.in-ok-push.ensures.items ∙ ap (λ l. l ++ c.in-ok-call.call ∷ []) c.new-calls.ensures.items in
-    let one = one_served (net_meant g.B.Space.means) m c.in-ok-call.call (vec_items c.push.new.self) (vec_items c.in-ok-answers.answers) (net_means g.B.Space.means c.serve.new.stack).shape e c.in-ok-answers.ensures in
-    not-empty one.reply (vec_items c.in-ok-answers.answers) _ one.alone c.in-ok-answers.answers.ok.0 c.in-None.ensures.cases.0
+    let e = c.in_ok-push.ensures.items ∙ ap (λ l. l ++ c.in_ok-call.call ∷ []) c.new-calls.ensures.items in
+    let one = one_served (net_meant g.B.Space.means) m c.in_ok-call.call (vec_items c.push.new.self) (vec_items c.in_ok-answers.answers) (net_means g.B.Space.means c.serve.new.stack).shape e c.in_ok-answers.ensures in
+    not-empty one.reply (vec_items c.in_ok-answers.answers) _ one.alone c.in_ok-answers.answers.ok.0 c.in-None.ensures.cases.0
 
 pub returns : goal.returns
 returns g c =
     let m = (net_means g.B.Space.means c.args.net.now).shape in
-    let e = c.in-ok-push.ensures.items ∙ ap (λ l. l ++ c.in-ok-call.call ∷ []) c.new-calls.ensures.items in
-    let one = one_served (net_meant g.B.Space.means) m c.in-ok-call.call (vec_items c.push.new.self) (vec_items c.in-ok-answers.answers) (net_means g.B.Space.means c.serve.new.stack).shape e c.in-ok-answers.ensures in
+    let e = c.in_ok-push.ensures.items ∙ ap (λ l. l ++ c.in_ok-call.call ∷ []) c.new-calls.ensures.items in
+    let one = one_served (net_meant g.B.Space.means) m c.in_ok-call.call (vec_items c.push.new.self) (vec_items c.in_ok-answers.answers) (net_means g.B.Space.means c.serve.new.stack).shape e c.in_ok-answers.ensures in
     let same = popped one.reply c.in-Some.answer (vec_items c.pop.new.self) (sym one.alone ∙ c.in-Some.ensures.items) in (
-      c.in-ok-line.ensures ∙ ap (λ r. reply_text (heard r)) (sym same) ∙ ap reply_text one.right.same ∙ ap (λ q. reply_text (reference m q).0) c.in-ok-call.ensures,
-      one.left ∙ ap (λ q. (reference m q).1) c.in-ok-call.ensures,
+      c.in_ok-line.ensures ∙ ap (λ r. reply_text (heard r)) (sym same) ∙ ap reply_text one.right.same ∙ ap (λ q. reply_text (reference m q).0) c.in_ok-call.ensures,
+      one.left ∙ ap (λ q. (reference m q).1) c.in_ok-call.ensures,
     )

@@ -52,6 +52,6 @@ returns c =
         c.loop-step.invariant.0,
         c.loop-step.invariant.1,
         lay_all (steps k c.args.node c.args.address) (rest k c.args.node c.args.address c.loop-step.from) c.loop-step.queue c.args.start c.args.tail c.loop-step.end
-            c.loop-step.invariant.0 c.loop-step.invariant.3 c.in-default.ensures,
+            c.loop-step.invariant.0 c.loop-step.invariant.3 c.in_default.ensures,
       );
     }

@@ -70,6 +70,6 @@ stretch-returns t c =
     let k = kept c.args.blocks.now in
     record {
       holds = λ _. bound_name k c.args.node c.args.address c.loop-step.sum c.args.extent c.requires.near
-          (sum-all k (rest k c.args.node c.args.address 0) c.args.extent (rest k c.args.node c.args.address c.loop-step.from) c.loop-step.sum c.loop-step.invariant.3 c.in-default.ensures);
+          (sum-all k (rest k c.args.node c.args.address 0) c.args.extent (rest k c.args.node c.args.address c.loop-step.from) c.loop-step.sum c.loop-step.invariant.3 c.in_default.ensures);
       reliable = c.loop-step.invariant.2;
     }

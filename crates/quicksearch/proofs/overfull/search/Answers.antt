@@ -9,8 +9,8 @@ use Rattle.quicksearch.proofs.overfull.search.Goals as goal
 pub loop-node-init : goal.loop-node-init
 loop-node-init c = (none_yet (kept c.args.blocks.now), c.requires.reliable)
 
-pub overfull-in-requires : goal.overfull-in-requires
-overfull-in-requires c =
+pub overfull_in-requires : goal.overfull_in-requires
+overfull_in-requires c =
     let n = length-set c.loop-node.queue 0 (record { offset = 0; destination = c.loop-node.node }) in
     record {
       places = (omega arith, omega arith, omega arith);
@@ -29,8 +29,8 @@ pub loop-node-preserved : goal.loop-node-preserved
 loop-node-preserved c =
     let k = kept c.args.blocks.now in (
       none_more k c.loop-node.node c.loop-node.invariant.0
-          (none_here k c.loop-node.node _ (alone c.loop-node.queue c.loop-node.node c.loop-node-test.true (omega arith)) c.in-default.ensures.first),
-      c.overfull-in.ensures.reliable,
+          (none_here k c.loop-node.node _ (alone c.loop-node.queue c.loop-node.node c.loop-node-test.true (omega arith)) c.in_default.ensures.first),
+      c.overfull_in.ensures.reliable,
     )
 
 pub returns : goal.returns

@@ -9,7 +9,7 @@ pub loop-node-init : goal.loop-node-init
 loop-node-init c = none_yet (kept c.args.blocks.now)
 
 pub loop-node-preserved : goal.loop-node-preserved
-loop-node-preserved c = none_more (kept c.args.blocks.now) c.loop-node.node c.loop-node.invariant c.in-default.ensures
+loop-node-preserved c = none_more (kept c.args.blocks.now) c.loop-node.node c.loop-node.invariant c.in_default.ensures
 
 pub returns-in-Some : goal.returns-in-Some
 returns-in-Some c = first-at (kept c.args.blocks.now) c.loop-node.node c.in-Some.address c.loop-node-test.true c.loop-node.invariant c.in-Some.ensures

@@ -7,27 +7,27 @@ use Rattle.model.proofs.Keeping.{sound_ends}
 use Rattle.serve.proofs.Serving.{served_more}
 use Rattle.serve.proofs.run.serve.Goals as goal
 
-pub push-reserved-requires : goal.push-reserved-requires
-push-reserved-requires g c = omega (arith, c.loop-call.invariant.2, ap length c.in-Some.ensures.steps.0)
+pub push_reserved-requires : goal.push_reserved-requires
+push_reserved-requires g c = omega (arith, c.loop-call.invariant.2, ap length c.in-Some.ensures.steps.0)
 
 pub loop-call-init : goal.loop-call-init
 loop-call-init g c = (
   tt,
   tt,
-  omega (arith, c.in-ok-answers.ensures.len, c.in-ok-answers.ensures.capacity, c.len.ensures, ap length c.into-iter-call-iterator.ensures.into-iter-gives.0, c.args.calls.ok.0),
+  omega (arith, c.in_ok-answers.ensures.len, c.in_ok-answers.ensures.capacity, c.len.ensures, ap length c.into-iter-call-iterator.ensures.into-iter-gives.0, c.args.calls.ok.0),
   λ rs q s. subst (λ (ys : List Answer). Served g.P.Layer.meaning (g.P.Space.means c.args.stack.now).shape (into_iter_items c.into-iter-call-iterator.result) (ys ++ rs) q)
-      (sym c.in-ok-answers.ensures.items) s,
+      (sym c.in_ok-answers.ensures.items) s,
 )
 
 pub loop-call-preserved : goal.loop-call-preserved
 loop-call-preserved g c = (
   tt,
   tt,
-  omega (arith, c.loop-call.invariant.2, ap length c.in-Some.ensures.steps.0, c.push-reserved.ensures.len, c.push-reserved.ensures.capacity),
-  served_more g.P.Layer.meaning (g.P.Space.means c.args.stack.now).shape (g.P.Space.means c.loop-call.stack).shape (g.P.Space.means c.serve-one-answer.new.stack).shape
-      c.in-Some.call c.serve-one-answer.result (into_iter_items c.into-iter-call-iterator.result) (into_iter_items c.loop-call.call-iterator) (into_iter_items c.next.new.self)
-      (vec_items c.loop-call.answers) (vec_items c.push-reserved.new.self)
-      c.in-Some.ensures.steps.0 (sound_ends (g.P.Space.means c.loop-call.stack).shape (g.P.Space.means c.loop-call.stack).sound) c.serve-one-answer.ensures.right c.serve-one-answer.ensures.left c.push-reserved.ensures.items
+  omega (arith, c.loop-call.invariant.2, ap length c.in-Some.ensures.steps.0, c.push_reserved.ensures.len, c.push_reserved.ensures.capacity),
+  served_more g.P.Layer.meaning (g.P.Space.means c.args.stack.now).shape (g.P.Space.means c.loop-call.stack).shape (g.P.Space.means c.serve_one-answer.new.stack).shape
+      c.in-Some.call c.serve_one-answer.result (into_iter_items c.into-iter-call-iterator.result) (into_iter_items c.loop-call.call-iterator) (into_iter_items c.next.new.self)
+      (vec_items c.loop-call.answers) (vec_items c.push_reserved.new.self)
+      c.in-Some.ensures.steps.0 (sound_ends (g.P.Space.means c.loop-call.stack).shape (g.P.Space.means c.loop-call.stack).sound) c.serve_one-answer.ensures.right c.serve_one-answer.ensures.left c.push_reserved.ensures.items
       c.loop-call.invariant.3,
 )
 

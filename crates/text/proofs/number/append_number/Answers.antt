@@ -10,14 +10,14 @@ pub loop-place-preserved : goal.loop-place-preserved
 loop-place-preserved c =
     let p = c.loop-place.place - 1 in
     let e : suc p ≡ c.loop-place.place = omega arith in
-    let d = c.digit-at.ensures in
-    let small : c.digit-at.result < 128 = rw d (code_ascii (c.args.value / 16 ^ p)) in
+    let d = c.digit_at.ensures in
+    let small : c.digit_at.result < 128 = rw d (code_ascii (c.args.value / 16 ^ p)) in
     let one = c.push.ensures.ascii small in
     let ok = c.in-Ok.ensures in
     let grown : string_bytes c.push.new.self ≡ string_bytes c.loop-place.out ++ (digit_code (c.args.value / 16 ^ p) ∷ []) =
     ok.bytes ∙ ap (λ z. string_bytes c.loop-place.out ++ z) (one ∙ ap (λ z. z ∷ []) d) in
     let more = ok.len in
-    let wide : length (encode c.digit-at.result) ≡ 1 = ap length one in
+    let wide : length (encode c.digit_at.result) ≡ 1 = ap length one in
     let room = ok.capacity in (
       spelled-more (string_bytes c.loop-place.out) _ _ p c.args.value grown (ap (λ z. string_bytes c.loop-place.out ++ spelled z c.args.value) e ∙ c.loop-place.invariant.0),
       omega arith,

@@ -2,33 +2,33 @@ use Rattle.std.proofs.Common.{length, get_or, Some, None, sym, ap, ◌∙◌, ar
 use Rattle.text.proofs.Spelling.{read_more, read_stops, read_done, number-whole, fits_more, value_below, some-length, bound_at}
 use Rattle.text.proofs.number.read_number.Goals as goal
 
-pub returns-in-err-low : goal.returns-in-err-low
-returns-in-err-low c =
-    let some = some-length (length c.args.digits.now) c.if-is-empty.ensures in
-    rw c.from-residual.ensures
+pub returns-in_err-low : goal.returns-in_err-low
+returns-in_err-low c =
+    let some = some-length (length c.args.digits.now) c.if-is_empty.ensures in
+    rw c.from_residual.ensures
     record {
-      value = number-whole c.args.digits.now None some (omega arith) (read_stops c.args.digits.now c.loop-byte.byte-index c.loop-byte.value c.loop-byte-test.true (sym c.in-err-low.ensures) c.loop-byte.invariant.1);
+      value = number-whole c.args.digits.now None some (omega arith) (read_stops c.args.digits.now c.loop-byte.byte-index c.loop-byte.value c.loop-byte-test.true (sym c.in_err-low.ensures) c.loop-byte.invariant.1);
       bound = tt;
     }
 
-pub overflow-mul-value : goal.overflow-mul-value
-overflow-mul-value c =
+pub overflow_mul-value : goal.overflow_mul-value
+overflow_mul-value c =
     let h = fits_more c.loop-byte.byte-index c.loop-byte.value (omega arith) c.loop-byte.invariant.0 in omega arith
 
-pub overflow-add-value : goal.overflow-add-value
-overflow-add-value c =
+pub overflow_add-value : goal.overflow_add-value
+overflow_add-value c =
     let h = fits_more c.loop-byte.byte-index c.loop-byte.value (omega arith) c.loop-byte.invariant.0 in
-    let d = value_below (get_or c.args.digits.now c.loop-byte.byte-index 0) c.in-ok-low.low (sym c.in-ok-low.ensures) in
+    let d = value_below (get_or c.args.digits.now c.loop-byte.byte-index 0) c.in_ok-low.low (sym c.in_ok-low.ensures) in
     omega arith
 
 pub loop-byte-preserved : goal.loop-byte-preserved
 loop-byte-preserved c =
     read_more c.args.digits.now c.loop-byte.byte-index c.loop-byte.value c.from.result c.loop-byte-test.true
-    (sym c.in-ok-low.ensures ∙ ap Some (sym c.from.ensures)) c.loop-byte.invariant.0 c.loop-byte.invariant.1
+    (sym c.in_ok-low.ensures ∙ ap Some (sym c.from.ensures)) c.loop-byte.invariant.0 c.loop-byte.invariant.1
 
 pub returns : goal.returns
 returns c =
-    let some = some-length (length c.args.digits.now) c.if-is-empty.ensures in
+    let some = some-length (length c.args.digits.now) c.if-is_empty.ensures in
     record {
       value = number-whole c.args.digits.now _ some (omega arith) (read_done c.args.digits.now c.loop-byte.byte-index c.loop-byte.value c.loop-byte-test.false c.loop-byte.invariant.1);
       bound = bound_at c.loop-byte.value c.loop-byte.byte-index (length c.args.digits.now) (omega arith) (omega arith) c.loop-byte.invariant.0;

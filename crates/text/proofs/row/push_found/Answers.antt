@@ -4,9 +4,9 @@ use Rattle.text.proofs.row.push_found.Goals as goal
 
 pub returns : goal.returns
 returns c =
-    found_some c.args.names.now (string_bytes c.args.line.now) (string_bytes c.push-str-2.new.self) (string_bytes c.push-names.new.out) (λ e. search rules)
-    c.in-ok-push-str-2.ensures.bytes c.in-ok-push-names.ensures
+    found_some c.args.names.now (string_bytes c.args.line.now) (string_bytes c.push_str-2.new.self) (string_bytes c.push_names.new.out) (λ e. search rules)
+    c.in_ok-push_str-2.ensures.bytes c.in_ok-push_names.ensures
 
-pub returns-then-is-empty : goal.returns-then-is-empty
-returns-then-is-empty c =
-    found_none c.args.names.now (string_bytes c.args.line.now) (string_bytes c.push-str.new.self) (search rules) c.in-ok-push-str.ensures.bytes
+pub returns-then-is_empty : goal.returns-then-is_empty
+returns-then-is_empty c =
+    found_none c.args.names.now (string_bytes c.args.line.now) (string_bytes c.push_str.new.self) (search rules) c.in_ok-push_str.ensures.bytes

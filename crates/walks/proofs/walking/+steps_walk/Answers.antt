@@ -31,16 +31,16 @@ steps-returns-then-step-eq32 t c = record {
   fewer = fewer_still (c.args.left - 1) c.args.left c.steps.new.notes (omega arith) c.steps.result c.steps.ensures.fewer;
 }
 
-pub steps-returns-in-err-still : goal.steps-returns-in-err-still
-steps-returns-in-err-still t c =
+pub steps-returns-in_err-still : goal.steps-returns-in_err-still
+steps-returns-in_err-still t c =
     let k = kept c.args.blocks.now in
     let x = c.in-Some.step in
     record {
-      went = refused k (rest k c.args.node c.args.address c.args.from) c.args.left c.args.notes.now c.walk.new.notes c.from-residual.result c.from-residual.ensures
+      went = refused k (rest k c.args.node c.args.address c.args.from) c.args.left c.args.notes.now c.walk.new.notes c.from_residual.result c.from_residual.ensures
           (went_past k c.args.notes.now c.walk.new.notes x.destination x.address c.args.left
           (rest k c.args.node c.args.address c.args.from) (rest k c.args.node c.args.address x.next)
-          c.if-step-eq32.false c.in-Some.ensures.is c.in-err-still.ensures.went);
-      fewer = none_fewer c.args.left c.walk.new.notes c.from-residual.result c.from-residual.ensures;
+          c.if-step-eq32.false c.in-Some.ensures.is c.in_err-still.ensures.went);
+      fewer = none_fewer c.args.left c.walk.new.notes c.from_residual.result c.from_residual.ensures;
     }
 
 pub steps-returns : goal.steps-returns
@@ -48,11 +48,11 @@ steps-returns t c = record {
   went =
       let k = kept c.args.blocks.now in
       let x = c.in-Some.step in
-      went_node k c.args.notes.now c.steps-2.new.notes x.destination x.address c.args.left c.in-ok-still.still
+      went_node k c.args.notes.now c.steps-2.new.notes x.destination x.address c.args.left c.in_ok-still.still
       (rest k c.args.node c.args.address c.args.from) (rest k c.args.node c.args.address x.next) c.walk.new.notes
-      c.if-step-eq32.false c.in-Some.ensures.is c.in-ok-still.ensures.went
+      c.if-step-eq32.false c.in-Some.ensures.is c.in_ok-still.ensures.went
       c.steps-2.result c.steps-2.ensures.went;
-  fewer = fewer_still c.in-ok-still.still c.args.left c.steps-2.new.notes c.in-ok-still.ensures.fewer.0 c.steps-2.result c.steps-2.ensures.fewer;
+  fewer = fewer_still c.in_ok-still.still c.args.left c.steps-2.new.notes c.in_ok-still.ensures.fewer.0 c.steps-2.result c.steps-2.ensures.fewer;
 }
 
 pub walk-steps-requires : goal.walk-steps-requires
@@ -83,7 +83,7 @@ walk-returns t c = record {
       let g : c.if-accepts.notes.span ≡ c.args.notes.now.span =
       elim c.if-accepts.branch [ walk-then-accepts w ↦ ap (λ z. z.span) w.notes-is | walk-else-accepts w ↦ ap (λ z. z.span) w.notes-is ] in
       let f : c.min-notes.result ≡ min c.args.notes.now.span (reach k c.args.node c.args.address) =
-      c.min-notes.ensures ∙ ap (λ z. min z c.reach-above.result) g ∙ ap (λ z. min c.args.notes.now.span z) c.reach-above.ensures in
+      c.min-notes.ensures ∙ ap (λ z. min z c.reach_above.result) g ∙ ap (λ z. min c.args.notes.now.span z) c.reach_above.ensures in
       went_name k c.args.notes.now c.steps.new.notes c.args.node c.args.address c.args.left (c.args.left - 1)
       (record { items = c.if-accepts.notes.items; span = c.min-notes.result }) (omega arith) e f
       c.steps.result c.steps.ensures.went;

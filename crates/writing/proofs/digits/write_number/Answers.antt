@@ -8,7 +8,7 @@ loop-place-preserved c =
     let l = c.loop-place.auto.out in
     let h : c.loop-place.next < length c.loop-place.out = omega (arith, c.requires, c.loop-place-test.true) in (
       omega (arith, c.loop-place-test.true),
-      digit_more c.loop-place.place c.args.value c.loop-place.next c.digit-at.result c.loop-place.out _ c.loop-place-test.true h c.digit-at.ensures c.loop-place.invariant.1,
+      digit_more c.loop-place.place c.args.value c.loop-place.next c.digit_at.result c.loop-place.out _ c.loop-place-test.true h c.digit_at.ensures c.loop-place.invariant.1,
     )
 
 pub returns : goal.returns

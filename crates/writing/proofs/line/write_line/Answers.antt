@@ -4,8 +4,8 @@ use Rattle.writing.specs.Fields.{width}
 use Rattle.writing.proofs.Lined.{width-more, field_more, line-done}
 use Rattle.writing.proofs.line.write_line.Goals as goal
 
-pub write-number-next-requires : goal.write-number-next-requires
-write-number-next-requires c =
+pub write_number-next-requires : goal.write_number-next-requires
+write_number-next-requires c =
     let n = c.loop-field.invariant.0 in
     let w = width-more c.args.fields.now c.loop-field.field-index (record { value = 0; digits = 0 }) c.loop-field-test.true in
     let l = c.loop-field.auto.out in
@@ -16,9 +16,9 @@ loop-field-preserved c =
     let n = c.loop-field.invariant.0 in
     let w = width-more c.args.fields.now c.loop-field.field-index (record { value = 0; digits = 0 }) c.loop-field-test.true in
     let l = c.loop-field.auto.out in
-    let e = c.write-number-next.ensures.end in (
+    let e = c.write_number-next.ensures.end in (
       omega arith,
-      field_more c.args.fields.now c.loop-field.field-index (record { value = 0; digits = 0 }) c.loop-field-test.true c.loop-field.next c.write-number-next.result c.loop-field.out c.write-number-next.new.out _ e (omega (arith, c.requires)) c.write-number-next.ensures.out c.loop-field.invariant.1,
+      field_more c.args.fields.now c.loop-field.field-index (record { value = 0; digits = 0 }) c.loop-field-test.true c.loop-field.next c.write_number-next.result c.loop-field.out c.write_number-next.new.out _ e (omega (arith, c.requires)) c.write_number-next.ensures.out c.loop-field.invariant.1,
     )
 
 pub bounds-out-next : goal.bounds-out-next

@@ -8,10 +8,10 @@ pub loop-accepted-preserved : goal.loop-accepted-preserved
 loop-accepted-preserved c =
     let n = c.loop-accepted.invariant.0 in
     let l = c.loop-accepted.auto.out in
-    let e = c.write-accept-next.ensures.end in (
+    let e = c.write_accept-next.ensures.end in (
       omega arith,
-      block_more accept_line 37 length-accept accept_block c.args.accepts.now c.loop-accepted.accepted-index c.accepted-item.result c.loop-accepted.next c.write-accept-next.result c.loop-accepted.out c.write-accept-next.new.out _
-          c.loop-accepted-test.true c.accepted-item.is e (omega (arith, c.requires, c.loop-accepted-test.true)) c.write-accept-next.ensures.out c.loop-accepted.invariant.1,
+      block_more accept_line 37 length-accept accept_block c.args.accepts.now c.loop-accepted.accepted-index c.accepted-item.result c.loop-accepted.next c.write_accept-next.result c.loop-accepted.out c.write_accept-next.new.out _
+          c.loop-accepted-test.true c.accepted-item.is e (omega (arith, c.requires, c.loop-accepted-test.true)) c.write_accept-next.ensures.out c.loop-accepted.invariant.1,
     )
 
 pub returns : goal.returns

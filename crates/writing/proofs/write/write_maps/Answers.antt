@@ -8,10 +8,10 @@ pub loop-mapped-preserved : goal.loop-mapped-preserved
 loop-mapped-preserved c =
     let n = c.loop-mapped.invariant.0 in
     let l = c.loop-mapped.auto.out in
-    let e = c.write-map-next.ensures.end in (
+    let e = c.write_map-next.ensures.end in (
       omega arith,
-      block_more map_line 55 length-mapped map_block c.args.maps.now c.loop-mapped.mapped-index c.mapped-item.result c.loop-mapped.next c.write-map-next.result c.loop-mapped.out c.write-map-next.new.out _
-          c.loop-mapped-test.true c.mapped-item.is e (omega (arith, c.requires, c.loop-mapped-test.true)) c.write-map-next.ensures.out c.loop-mapped.invariant.1,
+      block_more map_line 55 length-mapped map_block c.args.maps.now c.loop-mapped.mapped-index c.mapped-item.result c.loop-mapped.next c.write_map-next.result c.loop-mapped.out c.write_map-next.new.out _
+          c.loop-mapped-test.true c.mapped-item.is e (omega (arith, c.requires, c.loop-mapped-test.true)) c.write_map-next.ensures.out c.loop-mapped.invariant.1,
     )
 
 pub returns : goal.returns

@@ -5,8 +5,8 @@ use Rattle.writing.specs.Texts.{overlay_line, overlays_set}
 use Rattle.writing.proofs.Lined.{overlay_more, overlays-done}
 use Rattle.writing.proofs.write.write_overlays.Goals as goal
 
-pub write-overlay-next-requires : goal.write-overlay-next-requires
-write-overlay-next-requires c =
+pub write_overlay-next-requires : goal.write_overlay-next-requires
+write_overlay-next-requires c =
     let e = at_drop_more overlays_set c.args.overlays.now c.loop-destination.destination-index 0 c.loop-destination-test.true in
     let n = c.loop-destination.invariant.1 in
     let l = c.loop-destination.auto.out in
@@ -20,11 +20,11 @@ loop-destination-preserved c =
     let m = c.loop-destination.invariant.0 in
     let n = c.loop-destination.invariant.1 in
     let l = c.loop-destination.auto.out in
-    let r = c.write-overlay-next.ensures.end in (
+    let r = c.write_overlay-next.ensures.end in (
       omega arith,
       omega arith,
-      overlay_more ds i c.loop-destination.next c.loop-destination.out _ c.loop-destination.invariant.2 c.write-overlay-next.result c.write-overlay-next.new.out c.loop-destination-test.true r (omega (arith, c.requires.room))
-          (c.write-overlay-next.ensures.out ∙ ap (λ z. pasted (overlay_line z (get_or ds i 0)) c.loop-destination.next c.loop-destination.out) m),
+      overlay_more ds i c.loop-destination.next c.loop-destination.out _ c.loop-destination.invariant.2 c.write_overlay-next.result c.write_overlay-next.new.out c.loop-destination-test.true r (omega (arith, c.requires.room))
+          (c.write_overlay-next.ensures.out ∙ ap (λ z. pasted (overlay_line z (get_or ds i 0)) c.loop-destination.next c.loop-destination.out) m),
     )
 
 pub returns : goal.returns

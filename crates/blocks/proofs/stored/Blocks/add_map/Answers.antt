@@ -11,16 +11,16 @@ use Rattle.blocks.proofs.stored.Blocks.add_map.Goals as goal
 pub invariant_of-self : goal.invariant_of-self
 invariant_of-self c =
     let v = c.args.self.now.valid in
-    record { valid = (v.0, v.1, v.2, apart_added map_block same_map c.in-ok-x.x (held c.args.self.now.maps) (held c.add.new.list) c.add.result swap-map 128 c.add.ensures v.3, v.4) }
+    record { valid = (v.0, v.1, v.2, apart_added map_block same_map c.in_ok-x.x (held c.args.self.now.maps) (held c.add.new.list) c.add.result swap-map 128 c.add.ensures v.3, v.4) }
 
-pub returns-in-err-x : goal.returns-in-err-x
-returns-in-err-x c =
-    let p = err_from_is_err_and c.from-residual.result c.from-residual.ensures.1 in
-    let e : c.from-residual.result ≡ Err c.in-err-x.field-0.0 = cc (p.1, p.2) in
-    refused_early (of_map c.args.block) (to_add (same_map c.args.block) (kept c.args.self.now).maps 128) c.in-err-x.field-0.0
-    (with_maps (kept c.args.self.now) ((kept c.args.self.now).maps ++ c.args.block ∷ [])) (kept c.args.self.now) c.from-residual.result e c.in-err-x.ensures
+pub returns-in_err-x : goal.returns-in_err-x
+returns-in_err-x c =
+    let p = err_from_is_err_and c.from_residual.result c.from_residual.ensures.1 in
+    let e : c.from_residual.result ≡ Err c.in_err-x.field-0.0 = cc (p.1, p.2) in
+    refused_early (of_map c.args.block) (to_add (same_map c.args.block) (kept c.args.self.now).maps 128) c.in_err-x.field-0.0
+    (with_maps (kept c.args.self.now) ((kept c.args.self.now).maps ++ c.args.block ∷ [])) (kept c.args.self.now) c.from_residual.result e c.in_err-x.ensures
 
 pub returns : goal.returns
 returns c =
-    added map_block same_map c.in-ok-x.x (held c.args.self.now.maps) (held c.add.new.list) c.add.result
-    (with_maps (kept c.args.self.now)) c.args.block (of_map c.args.block) 128 c.in-ok-x.ensures.0 c.in-ok-x.ensures.1 c.add.ensures
+    added map_block same_map c.in_ok-x.x (held c.args.self.now.maps) (held c.add.new.list) c.add.result
+    (with_maps (kept c.args.self.now)) c.args.block (of_map c.args.block) 128 c.in_ok-x.ensures.0 c.in_ok-x.ensures.1 c.add.ensures

@@ -12,7 +12,7 @@ pub returns-then-push : goal.returns-then-push
 returns-then-push g c =
     let xs : List Pair = held c.args.self.now.pairs in
     let m : Model = (g.B.Space.means c.args.self.now.below).shape in
-    let new = c.if-is-from.ensures ∙ ap (λ ys. some_of (λ p. eqb p.0 c.args.from) (map two ys)) c.as-slice-pairs.ensures in
+    let new = c.if-is_from.ensures ∙ ap (λ ys. some_of (λ p. eqb p.0 c.args.from) (map two ys)) c.as_slice-pairs.ensures in
     let e = pair_added xs m c.args.from c.args.to new c.if-push.ensures.room in
     record {
       answer = sym (ap (λ (x : End × Model). x.0) e);
@@ -23,7 +23,7 @@ pub returns-else-push : goal.returns-else-push
 returns-else-push g c =
     let xs : List Pair = held c.args.self.now.pairs in
     let m : Model = (g.B.Space.means c.args.self.now.below).shape in
-    let new = c.if-is-from.ensures ∙ ap (λ ys. some_of (λ p. eqb p.0 c.args.from) (map two ys)) c.as-slice-pairs.ensures in
+    let new = c.if-is_from.ensures ∙ ap (λ ys. some_of (λ p. eqb p.0 c.args.from) (map two ys)) c.as_slice-pairs.ensures in
     let e = pair_full xs m c.args.from c.args.to new c.if-push.ensures.room in
     record {
       answer = sym (ap (λ (x : End × Model). x.0) e);

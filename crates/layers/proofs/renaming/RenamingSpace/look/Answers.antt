@@ -16,10 +16,10 @@ returns-in-Ok g c =
     let last = c.look.new.slots in
     let count = c.in-Ok.count in
     let a = c.in-Ok.ensures.answer in
-    let f = c.rename-first.ensures ∙ ap (λ qs. map (renamed (map two qs)) (take count last) ++ drop count last) c.as-slice-pairs.ensures in
+    let f = c.rename_first.ensures ∙ ap (λ qs. map (renamed (map two qs)) (take count last) ++ drop count last) c.as_slice-pairs.ensures in
     record {
       answer = (a.0 ∙ sym (length-map xs (renamed ps)), a.1, reach-renamed ps m c.args.address c.in-Ok.reach a.2);
-      buffer = filled-renamed ps xs c.args.slots.now last c.rename-first.new.slots count a.0 a.1 c.in-Ok.ensures.buffer f;
+      buffer = filled-renamed ps xs c.args.slots.now last c.rename_first.new.slots count a.0 a.1 c.in-Ok.ensures.buffer f;
     }
 
 pub returns-in-Err : goal.returns-in-Err

@@ -12,25 +12,25 @@ use Rattle.layers.proofs.renaming.RenamingSpace.meets.Goals.{else-replace-name-v
 
 pub returns-then-meets : goal.returns-then-meets
 returns-then-meets g c =
-    let ps : List (ℕ × ℕ) = map two c.as-slice-pairs.result.now in
+    let ps : List (ℕ × ℕ) = map two c.as_slice-pairs.result.now in
     let xs : List Name = lists (g.B.Space.means c.args.self.now.below).shape c.args.address in
     sym (met_itself ps xs c.args.name (sym c.replace.ensures ∙ c.if-replace-name.true) (sym c.if-meets.ensures))
-    ∙ ap (λ ys. holds (map (renamed (map two ys)) xs) c.args.name) c.as-slice-pairs.ensures
+    ∙ ap (λ ys. holds (map (renamed (map two ys)) xs) c.args.name) c.as_slice-pairs.ensures
 
 pub returns-then-meets-2 : goal.returns-then-meets-2
 returns-then-meets-2 g c =
-    let pairs = c.as-slice-pairs.result.now in
+    let pairs = c.as_slice-pairs.result.now in
     let ps : List (ℕ × ℕ) = map two pairs in
     let xs : List Name = lists (g.B.Space.means c.args.self.now.below).shape c.args.address in
     let x : Pair = get_or pairs c.loop-p.p-index blank in
     let lead = and_from (eqb (replaced ps x.from) c.args.name.component) (holds xs (record { component = x.from; address = c.args.name.address }))
     (eq-eqb (replaced ps x.from) c.args.name.component (sym c.replace-in-loop-p.ensures ∙ c.if-replace-name-2.true)) (sym c.if-meets-2.ensures) in
     sym (met_by_pair ps xs c.args.name (sym (some-found (leads ps xs c.args.name) pairs c.loop-p.p-index c.loop-p.invariant c.loop-p-test.true lead)))
-    ∙ ap (λ ys. holds (map (renamed (map two ys)) xs) c.args.name) c.as-slice-pairs.ensures
+    ∙ ap (λ ys. holds (map (renamed (map two ys)) xs) c.args.name) c.as_slice-pairs.ensures
 
 pub loop-p-preserved : goal.loop-p-preserved
 loop-p-preserved g c =
-    let pairs = c.as-slice-pairs.result.now in
+    let pairs = c.as_slice-pairs.result.now in
     let ps : List (ℕ × ℕ) = map two pairs in
     let xs : List Name = lists (g.B.Space.means c.args.self.now.below).shape c.args.address in
     let x : Pair = get_or pairs c.loop-p.p-index blank in
@@ -46,7 +46,7 @@ loop-p-preserved g c =
 
 pub returns : goal.returns
 returns g c =
-    let pairs = c.as-slice-pairs.result.now in
+    let pairs = c.as_slice-pairs.result.now in
     let ps : List (ℕ × ℕ) = map two pairs in
     let xs : List Name = lists (g.B.Space.means c.args.self.now.below).shape c.args.address in
     sym (not-met ps xs c.args.name
@@ -55,4 +55,4 @@ returns g c =
       | else-replace-name-via-else-replace-name w ↦ w.if-replace-name.false (c.replace.ensures ∙ e)
     ])
     (sym (some-none (leads ps xs c.args.name) pairs c.loop-p.p-index c.loop-p.invariant c.loop-p-test.false)))
-    ∙ ap (λ ys. holds (map (renamed (map two ys)) xs) c.args.name) c.as-slice-pairs.ensures
+    ∙ ap (λ ys. holds (map (renamed (map two ys)) xs) c.args.name) c.as_slice-pairs.ensures

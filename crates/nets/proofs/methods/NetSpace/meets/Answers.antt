@@ -14,6 +14,6 @@ pub returns : goal.returns
 returns g c =
     let t : Inner = inner c.args.self.now.table in
     let m : Model = (g.B.Space.means c.args.self.now.below).shape in
-    let items : List Note = c.as-slice.result.now in
-    let w = walked_slice t.keeps c.entry.result c.args.address c.in-Ok.notes.span items (held c.in-Ok.notes.items) c.as-slice.ensures c.in-Ok.ensures in
-    met_at t m c.entry.result c.args.address items c.in-Ok.notes.span w c.any-meets.result c.args.name c.entry.ensures c.any-meets.ensures
+    let items : List Note = c.as_slice.result.now in
+    let w = walked_slice t.keeps c.entry.result c.args.address c.in-Ok.notes.span items (held c.in-Ok.notes.items) c.as_slice.ensures c.in-Ok.ensures in
+    met_at t m c.entry.result c.args.address items c.in-Ok.notes.span w c.any_meets.result c.args.name c.entry.ensures c.any_meets.ensures

@@ -30,7 +30,7 @@ loop-row-preserved c =
     let slots = c.loop-row.slots in
     let count = c.loop-row.count in
     let near = c.min-reach.result in
-    let n : near ≡ min c.loop-row.reach (steady (get_or rs i blank) a) = c.min-reach.ensures ∙ ap (min c.loop-row.reach) c.steady-to.ensures in
+    let n : near ≡ min c.loop-row.reach (steady (get_or rs i blank) a) = c.min-reach.ensures ∙ ap (min c.loop-row.reach) c.steady_to.ensures in
     elim c.if-covers.branch [
       | then-covers+else-count-slots w ↦ (
           let ins = c.loop-row.invariant.inside in

@@ -5,12 +5,12 @@ use Rattle.blocks.specs.Shape.{kept}
 use Rattle.table.proofs.Deciding.{settles_early, settles_last}
 use Rattle.table.proofs.table.Table.map.Goals as goal
 
-pub returns-in-err-add-map : goal.returns-in-err-add-map
-returns-in-err-add-map c =
-    let p = err_from_is_err_and c.from-residual.result c.from-residual.ensures.1 in
-    let e : c.from-residual.result ≡ Err c.in-err-add-map.field-0.0 = cc (p.1, p.2) in
-    settles_early (kept c.args.self.now.blocks) (map_to c.args.block) (kept c.add-map.new.self) c.in-err-add-map.field-0.0 c.from-residual.result e c.in-err-add-map.ensures
+pub returns-in_err-add_map : goal.returns-in_err-add_map
+returns-in_err-add_map c =
+    let p = err_from_is_err_and c.from_residual.result c.from_residual.ensures.1 in
+    let e : c.from_residual.result ≡ Err c.in_err-add_map.field-0.0 = cc (p.1, p.2) in
+    settles_early (kept c.args.self.now.blocks) (map_to c.args.block) (kept c.add_map.new.self) c.in_err-add_map.field-0.0 c.from_residual.result e c.in_err-add_map.ensures
 
 pub returns : goal.returns
 returns c =
-    settles_last (kept c.args.self.now.blocks) (map_to c.args.block) (kept c.add-map.new.self) (kept c.settle.new.self.blocks) tt c.settle.result refl c.in-ok-add-map.ensures c.settle.ensures
+    settles_last (kept c.args.self.now.blocks) (map_to c.args.block) (kept c.add_map.new.self) (kept c.settle.new.self.blocks) tt c.settle.result refl c.in_ok-add_map.ensures c.settle.ensures

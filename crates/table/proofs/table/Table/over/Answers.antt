@@ -5,23 +5,23 @@ use Rattle.blocks.specs.Shape.{kept}
 use Rattle.table.proofs.Deciding.{settles_early, settles_last, settles_bounded, cleared_bound}
 use Rattle.table.proofs.table.Table.over.Goals as goal
 
-pub returns-in-err-set-overlay : goal.returns-in-err-set-overlay
-returns-in-err-set-overlay c =
-    let p = err_from_is_err_and c.from-residual.result c.from-residual.ensures.1 in
-    let e : c.from-residual.result ≡ Err c.in-err-set-overlay.field-0.0 = cc (p.1, p.2) in
-    settles_early (kept c.args.self.now.blocks) (over c.args.node c.args.destination) (kept c.set-overlay.new.self) c.in-err-set-overlay.field-0.0 c.from-residual.result e c.in-err-set-overlay.ensures
+pub returns-in_err-set_overlay : goal.returns-in_err-set_overlay
+returns-in_err-set_overlay c =
+    let p = err_from_is_err_and c.from_residual.result c.from_residual.ensures.1 in
+    let e : c.from_residual.result ≡ Err c.in_err-set_overlay.field-0.0 = cc (p.1, p.2) in
+    settles_early (kept c.args.self.now.blocks) (over c.args.node c.args.destination) (kept c.set_overlay.new.self) c.in_err-set_overlay.field-0.0 c.from_residual.result e c.in_err-set_overlay.ensures
 
 pub returns : goal.returns
 returns c =
-    settles_last (kept c.args.self.now.blocks) (over c.args.node c.args.destination) (kept c.set-overlay.new.self) (kept c.settle.new.self.blocks) tt c.settle.result refl c.in-ok-set-overlay.ensures c.settle.ensures
+    settles_last (kept c.args.self.now.blocks) (over c.args.node c.args.destination) (kept c.set_overlay.new.self) (kept c.settle.new.self.blocks) tt c.settle.result refl c.in_ok-set_overlay.ensures c.settle.ensures
 
 pub keep-requires : goal.keep-requires
 keep-requires c =
-    cleared_bound (kept c.args.self.now.blocks) (kept c.set-overlay.new.self) c.args.node c.args.destination tt c.if-destination-eq33.true c.in-ok-set-overlay.ensures c.args.self.now.bounded
+    cleared_bound (kept c.args.self.now.blocks) (kept c.set_overlay.new.self) c.args.node c.args.destination tt c.if-destination-eq33.true c.in_ok-set_overlay.ensures c.args.self.now.bounded
 
 pub returns-then-destination-eq33 : goal.returns-then-destination-eq33
 returns-then-destination-eq33 c =
     let k = kept c.args.self.now.blocks in
-    let new = kept c.set-overlay.new.self in
-    settles_bounded k (over c.args.node c.args.destination) new (kept c.keep.new.self.blocks) tt refl c.in-ok-set-overlay.ensures
-    (cleared_bound k new c.args.node c.args.destination tt c.if-destination-eq33.true c.in-ok-set-overlay.ensures c.args.self.now.bounded) (ap kept c.keep.ensures)
+    let new = kept c.set_overlay.new.self in
+    settles_bounded k (over c.args.node c.args.destination) new (kept c.keep.new.self.blocks) tt refl c.in_ok-set_overlay.ensures
+    (cleared_bound k new c.args.node c.args.destination tt c.if-destination-eq33.true c.in_ok-set_overlay.ensures c.args.self.now.bounded) (ap kept c.keep.ensures)

@@ -15,10 +15,10 @@ returns g c =
     let low : s.lo ≤ at = omega (arith, c.if-address-self.false) in
     let high : at ≤ s.hi = omega (arith, c.if-address-self-2.false) in
     let f : s.hi < top = search rules in
-    let a = c.in-ok-count.ensures.answer in
+    let a = c.in_ok-count.ensures.answer in
     let e = sym (shown s.lo s.hi s.base m at low high) in
     record {
-      answer = (a.0 ∙ ap length e, a.1, reach_shown s.lo s.hi s.base m at c.in-ok-count.reach c.min-room.result low high f c.min-room.ensures a.2);
-      buffer = c.in-ok-count.ensures.buffer ∙ ap (λ xs. filled xs c.args.slots.now) e;
+      answer = (a.0 ∙ ap length e, a.1, reach_shown s.lo s.hi s.base m at c.in_ok-count.reach c.min-room.result low high f c.min-room.ensures a.2);
+      buffer = c.in_ok-count.ensures.buffer ∙ ap (λ xs. filled xs c.args.slots.now) e;
       reach = λ out. absurd (both_ways (within s.lo s.hi at) out (inside s.lo s.hi at low high));
     }
