@@ -13,8 +13,8 @@ use space::Space;
 // How many records the space takes. There can be more than a usize counts.
 pub(crate) fn measure<S: Space>(space: &S, scratch: &mut [Name]) -> Result<u128, Fault>
     ensures { MatchResult result
-        (λ n. (n ≡ needed (lists (means space.now).shape) top) × (fits (lists (means space.now).shape) (length scratch.old) top ≡ true))
-        (λ e. (e ≡ ScratchShort) × (fits (lists (means space.now).shape) (length scratch.old) top ≡ false)) }
+        (λ n. (n ≡ needed (lists (S.Space.means space.now).shape) top) × (fits (lists (S.Space.means space.now).shape) (length scratch.old) top ≡ true))
+        (λ e. (e ≡ ScratchShort) × (fits (lists (S.Space.means space.now).shape) (length scratch.old) top ≡ false)) }
 {
     let mut held = hold(space, 0, scratch)?;
     let mut total: u128 = 0;

@@ -17,7 +17,7 @@ fn count_and_fill<S: Space>(
     scratch: &mut [Name],
     table: &mut [Record],
 ) -> Result<usize, Fault>
-    ensures { FlattenAnswer (lists (means space.now).shape) (length scratch.old) table.old result table.new }
+    ensures { FlattenAnswer (lists (S.Space.means space.now).shape) (length scratch.old) table.old result table.new }
 {
     let needed = measure(space, scratch)?;
     if needed > table.len() as u128 {
@@ -33,7 +33,7 @@ pub fn flatten<S: Space>(
     scratch: &mut [Name],
     table: &mut [Record],
 ) -> Result<usize, Fault>
-    ensures answer { FlattenAnswer (lists (means space.now).shape) (length scratch.old) table.old result table.new }
+    ensures answer { FlattenAnswer (lists (S.Space.means space.now).shape) (length scratch.old) table.old result table.new }
     ensures wiped { scratch.new ≡ zeroed scratch.old }
 {
     let answer = count_and_fill(space, scratch, table);

@@ -24,7 +24,7 @@ pub(crate) fn distinct(names: &[Name]) -> usize
 
 // Whether the space has each of the names, raised, at the address.
 pub(crate) fn all_met<S: Space>(space: &S, at: u64, by: u64, names: &[Name]) -> bool
-    ensures { result ≡ ups by (lists (means space.now).shape at) names.now }
+    ensures { result ≡ ups by (lists (S.Space.means space.now).shape at) names.now }
 {
     for n in names {
         if n.address > u64::MAX - by {
@@ -43,7 +43,7 @@ pub(crate) fn all_met<S: Space>(space: &S, at: u64, by: u64, names: &[Name]) -> 
 
 // Whether the space has each of the names, lowered, at the address.
 pub(crate) fn all_came<S: Space>(space: &S, at: u64, by: u64, names: &[Name]) -> bool
-    ensures { result ≡ downs by (lists (means space.now).shape at) names.now }
+    ensures { result ≡ downs by (lists (S.Space.means space.now).shape at) names.now }
 {
     for n in names {
         if n.address < by {
@@ -62,7 +62,7 @@ pub(crate) fn all_came<S: Space>(space: &S, at: u64, by: u64, names: &[Name]) ->
 
 // Whether the space has each of the names at the address.
 pub(crate) fn all_there<S: Space>(space: &S, at: u64, names: &[Name]) -> bool
-    ensures { result ≡ every (holds (lists (means space.now).shape at)) names.now }
+    ensures { result ≡ every (holds (lists (S.Space.means space.now).shape at)) names.now }
 {
     for n in names {
         if !space.meets(at, *n) {

@@ -23,8 +23,8 @@ pub(crate) fn hold<S: Space>(
     scratch: &mut [Name],
 ) -> Result<Stretch, Fault>
     ensures { MatchResult result
-        (λ s. (s.address ≡ address) × Held (lists (means space.now).shape) scratch.new s)
-        (λ e. (e ≡ ScratchShort) × (length scratch.old < length (lists (means space.now).shape address))) }
+        (λ s. (s.address ≡ address) × Held (lists (S.Space.means space.now).shape) scratch.new s)
+        (λ e. (e ≡ ScratchShort) × (length scratch.old < length (lists (S.Space.means space.now).shape address))) }
 {
     match space.look(address, scratch) {
         Ok((count, reach)) => Ok(Stretch {
@@ -42,14 +42,14 @@ pub(crate) fn extend<S: Space>(
     start: Stretch,
     scratch: &mut [Name],
 ) -> Result<Option<Stretch>, Fault>
-    requires { Held (lists (means space.now).shape) scratch.old start }
+    requires { Held (lists (S.Space.means space.now).shape) scratch.old start }
     ensures { MatchResult result
         (λ o. MatchOption o
-        (Ended (lists (means space.now).shape) start.address 18446744073709551615 (length scratch.old))
+        (Ended (lists (S.Space.means space.now).shape) start.address 18446744073709551615 (length scratch.old))
         (λ s. (start.address < s.address)
-        × Ended (lists (means space.now).shape) start.address (s.address - 1) (length scratch.old)
-        × Held (lists (means space.now).shape) scratch.new s))
-        (λ e. (e ≡ ScratchShort) × Longer (lists (means space.now).shape) (length scratch.old)) }
+        × Ended (lists (S.Space.means space.now).shape) start.address (s.address - 1) (length scratch.old)
+        × Held (lists (S.Space.means space.now).shape) scratch.new s))
+        (λ e. (e ≡ ScratchShort) × Longer (lists (S.Space.means space.now).shape) (length scratch.old)) }
 {
     let mut held = start;
     'stretches: loop {

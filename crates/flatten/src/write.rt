@@ -42,10 +42,10 @@ fn write_rows(part: &mut [Record], names: &[Name], lo: u64) -> usize
 
 // Writes the records of the space, run after run. The look that ends a run takes the scratch, so the records are written before it and closed after.
 pub(crate) fn fill<S: Space>(space: &S, scratch: &mut [Name], table: &mut [Record]) -> usize
-    requires held { fits (lists (means space.now).shape) (length scratch.old) top ≡ true }
-    requires room { needed (lists (means space.now).shape) top ≤ length table.old }
-    ensures count { result ≡ needed (lists (means space.now).shape) top }
-    ensures flat { Flattened (lists (means space.now).shape) (take result table.new) }
+    requires held { fits (lists (S.Space.means space.now).shape) (length scratch.old) top ≡ true }
+    requires room { needed (lists (S.Space.means space.now).shape) top ≤ length table.old }
+    ensures count { result ≡ needed (lists (S.Space.means space.now).shape) top }
+    ensures flat { Flattened (lists (S.Space.means space.now).shape) (take result table.new) }
     ensures kept { drop result table.new ≡ drop result table.old }
 {
     let mut held = match hold(space, 0, scratch) {

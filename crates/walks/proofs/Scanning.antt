@@ -1,6 +1,6 @@
 -- Loops over stored blocks, to what the model says of the plain ones.
 use Rattle.std.proofs.Common.{◌≡◌, ℕ, ◌+◌, ◌-◌, ◌<◌, ◌≤◌, min, Bool, true, false, cond, ◌||◌, List, [], ◌∷◌, map, length, get_or, drop, sym, ap, ◌∙◌, arith}
-use Rattle.std.proofs.lemmas.List.{drop_more, drop_all, drop_map, length-map}
+use Rattle.std.proofs.lemmas.List.{drop_more, drop_all, drop-map, length-map}
 use Rattle.model.specs.declared.blocks.AcceptBlock.{AcceptBlock}
 use Rattle.model.specs.declared.blocks.MapBlock.{MapBlock}
 use Rattle.model.specs.Names.{top}
@@ -10,7 +10,7 @@ use Rattle.walks.specs.Spans.{covers, nearest}
 module _ {X Y : Type 0} (f : X → Y) (xs : List X) (i : ℕ) where
   pub drop_read : (x : X) → i < length xs → x ≡ get_or xs i x → drop i (map f xs) ≡ f x ∷ drop (i + 1) (map f xs)
   drop_read x h e =
-      drop_map f i xs ∙ ap (map f) (drop_more xs i x h ∙ ap (λ y. y ∷ drop (i + 1) xs) (sym e)) ∙ ap (λ l. f x ∷ l) (sym (drop_map f (i + 1) xs))
+      drop-map f i xs ∙ ap (map f) (drop_more xs i x h ∙ ap (λ y. y ∷ drop (i + 1) xs) (sym e)) ∙ ap (λ l. f x ∷ l) (sym (drop-map f (i + 1) xs))
 
   pub drop-end : length xs ≤ i → drop i (map f xs) ≡ []
   drop-end h = drop_all i (map f xs) (let l = length-map xs f in omega arith)
