@@ -9,7 +9,7 @@ use crate::table::Table;
 use blocks::stored::Blocks;
 use model::blocks::{AcceptBlock, MapBlock};
 use model::faults::Fault;
-use search::overfull::first_overfull;
+use quicksearch::overfull::first_overfull;
 
 // Whether a node has no overlay.
 fn is_bare(blocks: &Blocks, node: u8) -> bool

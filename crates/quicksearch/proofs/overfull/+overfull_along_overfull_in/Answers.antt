@@ -86,8 +86,8 @@ overfull_in-returns-in-None t c =
           (sym (sliced (put_mid c.args.head (c.args.tail - c.args.head) c.overfull_along-found.new.queue c.rotate_right.new.self) c.args.head c.args.tail (omega arith) ∙ ap (drop c.args.head) same)) all);
     }
 
-pub overfull_along_overfull_in-requires : goal.overfull_along_overfull_in-requires
-overfull_along_overfull_in-requires t c = (
+pub overfull_along-overfull_in-requires : goal.overfull_along-overfull_in-requires
+overfull_along-overfull_in-requires t c = (
   search rules,
   ((omega arith, omega arith, omega arith), (c.requires.under, (room_others c.args.blocks.now c.args.queue.now c.args.head c.args.tail c.args.start c.args.extent (omega arith) (omega arith) (omega arith) c.requires.room, c.requires.reliable))),
 )
@@ -124,8 +124,8 @@ overfull_along-returns-in_default t c =
       reliable = c.along.invariant.2;
     }
 
-pub overfull_along_overfull_in-requires-in-along : goal.overfull_along_overfull_in-requires-in-along
-overfull_along_overfull_in-requires-in-along t c =
+pub overfull_along-overfull_in-requires-in-along : goal.overfull_along-overfull_in-requires-in-along
+overfull_along-overfull_in-requires-in-along t c =
     let near : c.min-far.result ≤ reach (kept c.args.blocks.now) (first c.args.queue.now c.args.head).destination (((first c.args.queue.now c.args.head).offset + c.args.start) % top + c.along.x) =
     omega (arith, c.min-far.ensures, c.reach_above.ensures) in
     let l = c.in-Some.ensures.laid.0 in
