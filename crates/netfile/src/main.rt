@@ -82,11 +82,11 @@ fn read_task(rt: &HostRuntime) -> anyhow::Result<Task> {
         },
         "compare" => {
             let (Some(one), Some(two)) = (words.next(), words.next()) else {
-                return Err(USAGE.into());
+                return Err(anyhow!("{USAGE}"));
             };
             Ok(Task::Compare(read_node(one.as_str())?, read_node(two.as_str())?))
         }
-        _ => Err(USAGE.into()),
+        _ => Err(anyhow!("{USAGE}")),
     }
 }
 
@@ -96,10 +96,10 @@ fn read_node(word: &str) -> anyhow::Result<u8> {
             if node < 32 {
                 Ok(node)
             } else {
-                Err(USAGE.into())
+                Err(anyhow!("{USAGE}"))
             }
         }
-        Err(_) => Err(USAGE.into()),
+        Err(_) => Err(anyhow!("{USAGE}")),
     }
 }
 

@@ -19,9 +19,9 @@ pub(crate) fn gather<B: Space>(
     slots: &mut [Name],
 ) -> Result<(usize, u64), Fault>
     ensures answer { MatchResult result
-        (λ g. Gathered (lists (means below.now).shape) items.now span g.0 g.1 (length slots.old))
-        (λ e. (told e ≡ plain 9) × (length slots.old < length (each (lists (means below.now).shape) items.now))) }
-    ensures buffer { slots.new ≡ filled (each (lists (means below.now).shape) items.now) slots.old }
+        (λ g. Gathered (lists (B.Space.means below.now).shape) items.now span g.0 g.1 (length slots.old))
+        (λ e. (told e ≡ plain 9) × (length slots.old < length (each (lists (B.Space.means below.now).shape) items.now))) }
+    ensures buffer { slots.new ≡ filled (each (lists (B.Space.means below.now).shape) items.now) slots.old }
 {
     let mut count: usize = 0;
     let mut room = span;
@@ -52,7 +52,7 @@ pub(crate) fn gather<B: Space>(
 
 // Whether noted items lead to a name.
 pub(crate) fn any_meets<B: Space>(below: &B, items: &[Note], name: Name) -> bool
-    ensures { result ≡ holds (each (lists (means below.now).shape) items.now) name }
+    ensures { result ≡ holds (each (lists (B.Space.means below.now).shape) items.now) name }
 {
     for item in items {
         match *item {

@@ -1,4 +1,4 @@
-ghost use Rattle.std.specs.Prelude.{◌≡◌, ◌+◌, min, [], IfOk, if◌then◌else◌};
+ghost use Rattle.std.specs.Prelude.{◌≡◌, ◌+◌, min, [], IfOk, IfErr, if◌then◌else◌};
 
 use std::io;
 use std::io::{BufRead, BufReader, Stdin};
@@ -12,15 +12,17 @@ pub struct Input {
 }
 
 impl Input {
-    pub fn new(rt: &HostRuntime) -> Input
-        ensures line { result.line.items ≡ [] }
-        ensures number { result.number ≡ 0 }
+    // The reader's buffer is all that it allocates: where there is no memory for it, that is the error.
+    pub fn new(rt: &HostRuntime) -> io::Result<Input>
+        ensures line { IfOk result (λ input. input.line.items ≡ []) }
+        ensures number { IfOk result (λ input. input.number ≡ 0) }
+        ensures err { IfErr result (λ e. error_kind e ≡ OutOfMemory) }
     {
-        Input {
-            reader: BufReader::new(rt.stdin()),
+        Ok(Input {
+            reader: BufReader::new(rt.alloc(), rt.stdin())?,
             line: Vec::new(rt.alloc()),
             number: 0,
-        }
+        })
     }
 
     // Reads the next line, without its line feed; false at the end of the input.

@@ -10,7 +10,7 @@ use Rattle.nets.proofs.gather.any_meets.Goals.{in-Own+else-own-name, in-Arrival+
 pub returns-then-own-name-2 : goal.returns-then-own-name-2
 returns-then-own-name-2 g c =
     own-met (lists (g.B.Space.means c.args.below.now).shape) c.args.items.now c.args.name c.loop-item.item-index c.loop-item.invariant
-    (Own nothing) (Own c.in-Own.own_val) c.loop-item-test.true c.in-Own.is c.in-Own.own_val refl c.if-own-name.true c.if-own-name-2.true
+    (Own nothing) (Own c.in-Own.own) c.loop-item-test.true c.in-Own.is c.in-Own.own refl c.if-own-name.true c.if-own-name-2.true
 
 pub returns-then-meets : goal.returns-then-meets
 returns-then-meets g c =
@@ -21,10 +21,10 @@ pub loop-item-preserved : goal.loop-item-preserved
 loop-item-preserved g c = elim c.match-item.branch [
   | in-Own+else-own-name w ↦
       own-past (lists (g.B.Space.means c.args.below.now).shape) c.args.items.now c.args.name c.loop-item.item-index c.loop-item.invariant
-      (Own nothing) (Own w.in-Own.own_val) c.loop-item-test.true w.in-Own.is w.in-Own.own_val refl
+      (Own nothing) (Own w.in-Own.own) c.loop-item-test.true w.in-Own.is w.in-Own.own refl
       (elim w.else-own-name.branch [
-        | else-own-name-via-then-own-name+else-own-name-2 v ↦ other-address w.in-Own.own_val c.args.name v.if-own-name-2.false
-        | else-own-name-via-else-own-name v ↦ other_component w.in-Own.own_val c.args.name v.if-own-name.false
+        | else-own-name-via-then-own-name+else-own-name-2 v ↦ other-address w.in-Own.own c.args.name v.if-own-name-2.false
+        | else-own-name-via-else-own-name v ↦ other_component w.in-Own.own c.args.name v.if-own-name.false
       ])
   | in-Arrival+else-meets w ↦
       arrival_past (lists (g.B.Space.means c.args.below.now).shape) c.args.items.now c.args.name c.loop-item.item-index c.loop-item.invariant
