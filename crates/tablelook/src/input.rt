@@ -1,7 +1,8 @@
 ghost use Rattle.std.specs.Prelude.{◌≡◌, ◌+◌, min, [], IfOk, IfErr, if◌then◌else◌};
+ghost use Rattle.std.specs.IoError.{error_kind};
 
 use std::io;
-use std::io::{BufRead, BufReader, Stdin};
+use std::io::{BufRead, BufReader, ErrorKind, Stdin};
 
 // Standard input, line by line, as bytes: what is no text is a line like any other.
 #[derive(Drop)]
@@ -16,7 +17,7 @@ impl Input {
     pub fn new(rt: &HostRuntime) -> io::Result<Input>
         ensures line { IfOk result (λ input. input.line.items ≡ []) }
         ensures number { IfOk result (λ input. input.number ≡ 0) }
-        ensures err { IfErr result (λ e. error_kind e ≡ OutOfMemory) }
+        ensures err { IfErr result (λ e. error_kind e ≡ ErrorKind.OutOfMemory) }
     {
         Ok(Input {
             reader: BufReader::new(rt.alloc(), rt.stdin())?,

@@ -19,6 +19,6 @@ returns g c =
     let e = c.in_ok-push.ensures.items ∙ ap (λ l. l ++ c.in_ok-call.call ∷ []) c.new-calls.ensures.items in
     let one = one_served (net_meant g.B.Space.means) m c.in_ok-call.call (vec_items c.push.new.self) (vec_items c.in_ok-answers.answers) (net_means g.B.Space.means c.serve.new.stack).shape e c.in_ok-answers.ensures in
     let same = popped one.reply c.in-Some.answer (vec_items c.pop.new.self) (sym one.alone ∙ c.in-Some.ensures.items) in (
-      c.in_ok-line.ensures ∙ ap (λ r. reply_text (heard r)) (sym same) ∙ ap reply_text one.right.same ∙ ap (λ q. reply_text (reference m q).0) c.in_ok-call.ensures,
+      c.in_ok-line-in-Some.ensures ∙ ap (λ r. reply_text (heard r)) (sym same) ∙ ap reply_text one.right.same ∙ ap (λ q. reply_text (reference m q).0) c.in_ok-call.ensures,
       one.left ∙ ap (λ q. (reference m q).1) c.in_ok-call.ensures,
     )
