@@ -1,5 +1,5 @@
 -- Questions put one after another, and what a call leaves by them.
-use Rattle.std.proofs.Common.{◌≡◌, Bool, true, false, cond, List, [], ◌∷◌, ◌++◌, Ok, Err, Result, sym, refl, ap, ◌∙◌}
+use Rattle.std.proofs.Common.{◌≡◌, Bool, true, false, cond, List, [], ◌∷◌, ◌++◌, Err, Result, sym, refl, ap, ◌∙◌}
 use mathlib.Core.Option.{Option, none, some}
 use Rattle.model.specs.declared.faults.Fault.{Fault}
 use Rattle.model.specs.Faults.{Refusal, told, refusal}

@@ -148,7 +148,7 @@ fn by_run(
         starts.push(row.at.lo)?;
         rows.push((row.at.lo, row.at.hi, row.component, row.base))?;
     }
-    rows.sort();
+    rows.sort()?;
     Ok((starts, rows))
 }
 

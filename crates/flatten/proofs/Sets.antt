@@ -1,5 +1,5 @@
 -- Names in lists, and lists of names as sets.
-use Rattle.std.proofs.Common.{◌≡◌, ℕ, suc, ◌+◌, ◌-◌, ◌<◌, ◌≤◌, Bool, true, false, not, ◌&&◌, ◌||◌, eqb, leb, List, [], ◌∷◌, length, sym, refl, ap, ◌∙◌, inl, inr, add-zero, add_assoc, arith}
+use Rattle.std.proofs.Common.{◌≡◌, ℕ, suc, ◌+◌, ◌-◌, ◌<◌, ◌≤◌, Bool, true, false, ◌&&◌, ◌||◌, eqb, leb, List, [], ◌∷◌, length, sym, refl, ap, ◌∙◌, inl, inr, add-zero, add_assoc, arith}
 use mathlib.Core.Bool.{and-false}
 use Rattle.std.proofs.lemmas.Bool.{true≢false, both_ways, eqb-true, leb-true, leb-false, eq-eqb, ne_eqb, and_from, and_right, and_parts, or_left, or_right, or_cases, cond-true, cond-false, lt-ltb, cases_Bool}
 use Rattle.model.specs.declared.names.Name.{Name}

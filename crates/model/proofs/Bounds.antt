@@ -1,10 +1,10 @@
 -- The bound on walks: of the walks themselves, as a net keeps it, and as the question about walks finds it.
-use Rattle.std.proofs.Common.{◌≡◌, ℕ, zero, suc, ◌<◌, ◌≤◌, Bool, true, false, cond, not, ◌&&◌, ◌⊎◌, List, [], ◌∷◌, length, sym, refl, ap, ◌∙◌, subst, inl, inr, arith}
+use Rattle.std.proofs.Common.{◌≡◌, ℕ, zero, suc, ◌<◌, ◌≤◌, Bool, true, false, cond, not, ◌⊎◌, List, [], ◌∷◌, length, sym, refl, ap, ◌∙◌, subst, inl, inr, arith}
 use mathlib.Core.Option.{Option, none, some}
 use Rattle.std.proofs.lemmas.Bool.{and_from, and_parts, false≢true, true≢false, cases_lt}
 use Rattle.model.specs.Names.{top}
 use Rattle.model.specs.Nets.{Kept, Spot, node}
-use Rattle.model.specs.Walks.{Walk, EndsSoon, TooLong, WalksEnd, FirstTooLong, trace, finite, ends_soon, each_below, least, Bounded, overfull, first_overfull_lem}
+use Rattle.model.specs.Walks.{EndsSoon, TooLong, WalksEnd, FirstTooLong, trace, finite, ends_soon, each_below, least, Bounded, overfull, first_overfull_lem}
 use Rattle.model.specs.Faults.{Refusal, at_name}
 use Rattle.model.specs.Edits.{walks_bounded}
 use Rattle.model.proofs.Walking.{sound, complete}

@@ -1,19 +1,18 @@
 -- The lists of a stack have exactly the names that decoding gives.
-use Rattle.std.proofs.Common.{◌≡◌, ℕ, zero, suc, ◌+◌, ◌-◌, ◌<◌, ◌≤◌, Bool, true, false, cond, ◌&&◌, leb, ◌⊎◌, ◌↔◌, List, [], ◌∷◌, ◌++◌, map, length, sym, refl, ap, ◌∙◌, subst, inl, inr, arith}
-use mathlib.Core.Option.{Option, none, some}
+use Rattle.std.proofs.Common.{◌≡◌, ℕ, suc, ◌+◌, ◌-◌, ◌<◌, ◌≤◌, Bool, true, false, cond, leb, List, [], ◌∷◌, map, sym, refl, ap, ◌∙◌, subst, arith}
 use Rattle.std.proofs.lemmas.Bool.{and_parts, and_from, leb-true, le-leb, false≢true}
 use Rattle.model.specs.declared.names.Name.{Name}
 use Rattle.model.specs.Names.{top, holds, renamed}
-use Rattle.model.specs.Nets.{Kept, Spot, node, below, within, accepting, steps, TargetFits, Formed}
-use Rattle.model.specs.Walks.{trace, Walk}
+use Rattle.model.specs.Nets.{Kept, Spot, node, below, within}
+use Rattle.model.specs.Walks.{Walk}
 use Rattle.model.specs.Model.{Model, bottom, net, window, renaming, own, gathered, walked, lists, Sound}
-use Rattle.model.specs.Decoding.{Among, here, later, Place, comes, stands, Layer, first, netBelow, windowBelow, renamingBelow, Covers, Step, enters, shifts, passes, Reaches, stays, goes, Accepts, byNode, byBottom, depth, given, Decodes}
+use Rattle.model.specs.Decoding.{Among, here, later, Place, comes, stands, Layer, first, netBelow, windowBelow, renamingBelow, enters, shifts, passes, Reaches, stays, goes, Accepts, byNode, byBottom, depth, given, Decodes}
 use Rattle.model.proofs.Walking.{complete}
 use Rattle.model.proofs.Bounds.{bound_walked}
-use Rattle.model.proofs.Meeting.{walk_first, walk_closed, walk_each, walk_low, at}
+use Rattle.model.proofs.Meeting.{walk_first, walk_closed, walk_each, walk_low}
 use Rattle.model.proofs.Gathering.{holds-map, map-holds, Found, at-node, from-below, gathered-found, gathers_below, gathers_node}
 use Rattle.model.proofs.Stepping.{placed, steps_then, then-steps, block_accepts, accepts_block}
-use Rattle.model.proofs.Deeper.{deeper, depth_deeper, then, reaches_down, accepts_down, Deep, deep_comes, deep_depth, reaches_up, accepts_up}
+use Rattle.model.proofs.Deeper.{deeper, depth_deeper, then, reaches_down, accepts_down, deep_comes, deep_depth, reaches_up, accepts_up}
 
 -- a layer m over l, which gives a name of l by f
 module _ (m l : Model) (down : (d : ℕ) (x : Model) → Layer l d x → Layer m (suc d) x) (up : (d : ℕ) (x : Model) → Layer m (suc d) x → Layer l d x)

@@ -1,8 +1,7 @@
 -- Decoding of what lies below a layer, seen from above it: every place one layer deeper.
-use Rattle.std.proofs.Common.{◌≡◌, ℕ, zero, suc, ◌+◌, ◌-◌, List, sym, refl, ap, ◌∙◌, subst}
+use Rattle.std.proofs.Common.{◌≡◌, ℕ, suc, refl}
 use Rattle.model.specs.declared.names.Name.{Name}
-use Rattle.model.specs.Nets.{Kept}
-use Rattle.model.specs.Model.{Model, bottom, net, window, renaming}
+use Rattle.model.specs.Model.{Model}
 use Rattle.model.specs.Decoding.{Place, comes, stands, Layer, Step, Lands, toNode, toBelow, enters, byMap, byOverlay, shifts, passes, Reaches, stays, goes, Accepts, byNode, byBottom, depth}
 
 abbrev pub deeper : Place → Place

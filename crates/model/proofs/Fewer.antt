@@ -1,8 +1,7 @@
 -- Nets that take some of another's steps.
-use Rattle.std.proofs.Common.{◌≡◌, ℕ, ◌+◌, ◌-◌, ◌<◌, ◌≤◌, Bool, true, false, cond, ◌&&◌, eqb, leb, ◌⊎◌, List, [], ◌∷◌, ◌++◌, length, get_or, replicate, sym, refl, ap, ◌∙◌, subst, inl, inr, arith}
+use Rattle.std.proofs.Common.{◌≡◌, ℕ, ◌+◌, ◌-◌, ◌<◌, ◌≤◌, Bool, true, false, cond, ◌&&◌, eqb, ◌⊎◌, List, [], ◌∷◌, ◌++◌, length, get_or, replicate, sym, refl, ap, ◌∙◌, subst, inl, inr, arith}
 use Rattle.std.proofs.lemmas.Bool.{cases_lt, cases_eq, ne_eqb, eqb-true, and_parts}
-use Rattle.std.proofs.lemmas.List.{length-append, get_or-replicate, get_or_past, length-replicate}
-use Rattle.model.specs.declared.blocks.AcceptBlock.{AcceptBlock}
+use Rattle.std.proofs.lemmas.List.{length-append, get_or-replicate, get_or_past}
 use Rattle.model.specs.declared.blocks.MapBlock.{MapBlock}
 use Rattle.model.specs.Nets.{Kept, Spot, node, below, spot, within, accepting, mapped, overlaid, steps}
 use Rattle.model.specs.Walks.{Walk, done, arrives, goes_on, Sublist, empty, skip, keep, FewerSteps, Bounded}

@@ -1,8 +1,8 @@
 -- Which names are gathered from the spots of a walk.
-use Rattle.std.proofs.Common.{◌≡◌, ℕ, Bool, true, false, cond, ◌&&◌, ◌||◌, eqb, ◌⊎◌, List, [], ◌∷◌, ◌++◌, map, sym, refl, ap, ◌∙◌, subst, inl, inr, arith}
+use Rattle.std.proofs.Common.{◌≡◌, ℕ, Bool, true, false, cond, eqb, ◌⊎◌, List, [], ◌∷◌, ◌++◌, map, sym, refl, ap, ◌∙◌, inl, inr}
 use Rattle.std.proofs.lemmas.Bool.{and_parts, and_from, eqb-true, eq-eqb, or_cases, or_left, or_right, false≢true}
 use Rattle.model.specs.declared.names.Name.{Name}
-use Rattle.model.specs.Names.{same_name, holds, renamed}
+use Rattle.model.specs.Names.{same_name, holds}
 use Rattle.model.specs.Nets.{Kept, Spot, node, below, accepting}
 use Rattle.model.specs.Model.{own, gathered}
 use Rattle.model.specs.Decoding.{Among, here, later}

@@ -1,17 +1,15 @@
 -- Edits keep a stack sound.
-use Rattle.std.proofs.Common.{◌≡◌, ℕ, zero, suc, ◌+◌, ◌-◌, ◌<◌, ◌≤◌, Bool, true, false, cond, not, ◌&&◌, ◌||◌, eqb, ltb, leb, ◌⊎◌, List, [], ◌∷◌, ◌++◌, length, get_or, set, replicate, sym, refl, ap, ◌∙◌, subst, inl, inr, arith}
+use Rattle.std.proofs.Common.{◌≡◌, ℕ, ◌+◌, ◌-◌, ◌≤◌, Bool, true, false, cond, ◌&&◌, eqb, List, [], ◌∷◌, ◌++◌, get_or, sym, refl, subst, inl, inr, arith}
 use mathlib.Core.Option.{Option, none, some}
 use Rattle.std.specs.List.{AllByRecursion as All}
-use Rattle.std.proofs.lemmas.Bool.{leb-true, ltb-true, false≢true, true≢false, cases_lt, or_left, or_right, or_cases, cases_Bool}
-use Rattle.std.proofs.lemmas.List.{length-append, get_or-replicate, get_or_past, length-replicate}
+use Rattle.std.proofs.lemmas.Bool.{leb-true, ltb-true, false≢true, or_left, or_right, or_cases}
 use Rattle.std.proofs.ByRecursion.{All-push}
 use Rattle.model.specs.declared.blocks.AcceptBlock.{AcceptBlock}
-use Rattle.model.specs.declared.blocks.MapBlock.{MapBlock}
 use Rattle.model.specs.Names.{top}
-use Rattle.model.specs.Nets.{Kept, Spot, node, below, spot, within, accepting, mapped, overlaid, steps, TargetFits, Formed, fresh}
-use Rattle.model.specs.Walks.{Walk, done, arrives, goes_on, Sublist, FewerSteps, Bounded}
+use Rattle.model.specs.Nets.{Kept, Spot, node, within, accepting, mapped, overlaid, steps, TargetFits, Formed, fresh}
+use Rattle.model.specs.Walks.{Walk, done, goes_on, Sublist, FewerSteps, Bounded}
 use Rattle.model.specs.Model.{Model, bottom, net, window, renaming, Sound, AllWalksEnd}
-use Rattle.model.specs.Faults.{Refusal, at_name}
+use Rattle.model.specs.Faults.{Refusal}
 use Rattle.model.specs.Edits.{NetEdit, accept, map_to, over, drop_accept, drop_map, enter, Edit, on_net, pair, plug, edited, settled, asked, then, asks_walks, walks_bounded, without, same_map, net_questions, net_refusal, net_after, pair_refusal}
 use Rattle.model.specs.Laws.{PlugsSound}
 use Rattle.model.proofs.Bounds.{bound_walked, walked_bound, asked-walked}

@@ -4,12 +4,11 @@ use Rattle.std.specs.List.{AllByRecursion as All}
 use Rattle.std.proofs.lemmas.Bool.{and_left, and_right, ne_eqb, lt-leb}
 use Rattle.model.specs.declared.blocks.AcceptBlock.{AcceptBlock}
 use Rattle.model.specs.declared.blocks.MapBlock.{MapBlock}
-use Rattle.model.specs.declared.names.Name.{Name}
-use Rattle.model.specs.Names.{top, holds}
-use Rattle.model.specs.Nets.{Kept, Spot, node, below, within, accepting, mapped, overlaid, steps, TargetFits, Formed}
+use Rattle.model.specs.Names.{top}
+use Rattle.model.specs.Nets.{Kept, Spot, node, below, within, accepting, mapped, overlaid, steps, TargetFits}
 use Rattle.model.specs.Walks.{Walk, done, arrives, goes_on, Bounded}
-use Rattle.model.specs.Model.{Model, bottom, net, window, own, lists, Sound}
-use Rattle.model.specs.Decoding.{Among, here, later, Covers, Place, comes, stands, Layer, first, netBelow, windowBelow, Lands, toNode, toBelow, Step, enters, byMap, shifts, Reaches, stays, goes, Accepts, byNode, Decodes}
+use Rattle.model.specs.Model.{Model, bottom, net, own, Sound}
+use Rattle.model.specs.Decoding.{here, Covers, stands, first, netBelow, windowBelow, toNode, toBelow, enters, byMap, shifts, stays, goes, byNode}
 use Rattle.model.specs.Laws.{EntryNeeded, TargetNeeded, WindowNeeded}
 use Rattle.model.proofs.Bounds.{walked_bound}
 use Rattle.model.proofs.Fewer.{none_over}

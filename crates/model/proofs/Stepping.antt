@@ -1,11 +1,11 @@
 -- The steps from a node, as they are computed, are the decode steps.
-use Rattle.std.proofs.Common.{◌≡◌, ℕ, ◌+◌, ◌-◌, ◌≤◌, Bool, true, false, cond, ◌&&◌, ◌||◌, eqb, leb, ◌⊎◌, List, [], ◌∷◌, get_or, sym, refl, ap, ◌∙◌, subst, inl, inr, arith}
+use Rattle.std.proofs.Common.{◌≡◌, ℕ, ◌+◌, ◌-◌, Bool, true, false, cond, ◌&&◌, eqb, leb, List, [], ◌∷◌, get_or, sym, refl, ap, subst, inl, inr}
 use Rattle.std.proofs.lemmas.Bool.{and_parts, and_from, leb-true, le-leb, eqb-true, eqb-false, eq-eqb, ne_eqb, or_cases, or_left, or_right, false≢true, both_ways}
 use Rattle.model.specs.declared.blocks.AcceptBlock.{AcceptBlock}
 use Rattle.model.specs.declared.blocks.MapBlock.{MapBlock}
-use Rattle.model.specs.Nets.{Kept, Spot, node, below, spot, within, accepting, mapped, overlaid, steps}
+use Rattle.model.specs.Nets.{Kept, Spot, node, below, spot, within, accepting, mapped, steps}
 use Rattle.model.specs.Model.{Model, net}
-use Rattle.model.specs.Decoding.{Among, here, later, Covers, Place, comes, stands, Layer, first, Lands, toNode, toBelow, Step, byMap, byOverlay}
+use Rattle.model.specs.Decoding.{Among, here, later, Covers, Place, comes, stands, first, Lands, toNode, toBelow, Step, byMap, byOverlay}
 
 pub covers-true : (its lo hi n a : ℕ) → Covers its lo hi n a → (eqb its n && within lo hi a) ≡ true
 covers-true its lo hi n a c =

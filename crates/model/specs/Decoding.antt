@@ -1,5 +1,5 @@
 -- The decode steps of a stack of layers, as a relation, and what they reach.
-use Rattle.std.specs.Prelude.{◌≡◌, ℕ, zero, suc, ◌+◌, ◌-◌, ◌≤◌, true, List, [], ◌∷◌, ◌≢◌, slice_index_or}
+use Rattle.std.specs.Prelude.{◌≡◌, ℕ, zero, suc, ◌+◌, ◌-◌, ◌≤◌, true, List, ◌∷◌, ◌≢◌, slice_index_or}
 use Rattle.model.specs.declared.blocks.AcceptBlock.{AcceptBlock}
 use Rattle.model.specs.declared.blocks.MapBlock.{MapBlock}
 use Rattle.model.specs.declared.names.Name.{Name}

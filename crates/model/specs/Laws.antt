@@ -1,5 +1,5 @@
 -- The laws of the reference model: that what it computes is what its relations say.
-use Rattle.std.specs.Prelude.{◌≡◌, ℕ, ◌<◌, ◌≤◌, true, false, ◌↔◌, List, [], ◌∷◌, length}
+use Rattle.std.specs.Prelude.{◌≡◌, ℕ, ◌<◌, ◌≤◌, true, false, ◌↔◌, List, length}
 use Rattle.std.proofs.Math.Option.{none, some}
 use Rattle.std.specs.List.{AllByRecursion as All}
 use Rattle.model.specs.declared.names.Name.{Name}

@@ -1,12 +1,12 @@
 -- One call served, and the one answer to it.
-use Rattle.std.proofs.Common.{◌≡◌, ℕ, ◌-◌, ◌<◌, ◌≤◌, min, ◌⊎◌, List, [], ◌∷◌, ◌++◌, length, take, sym, refl, ap, ◌∙◌, subst, inl, inr, arith}
+use Rattle.std.proofs.Common.{◌≡◌, ℕ, ◌-◌, min, List, [], ◌∷◌, ◌++◌, length, take, sym, refl, ap, ◌∙◌, subst, inl, inr, arith}
 use Rattle.std.proofs.lemmas.List.{length-append, take_all}
 use Rattle.std.proofs.lemmas.Bool.{cases_lt}
 use Rattle.model.specs.Model.{Model}
 use Rattle.model.specs.Edits.{Edit}
 use Rattle.serve.specs.declared.call.Call.{Call}
 use Rattle.serve.specs.declared.call.Answer.{Answer}
-use Rattle.serve.specs.Reference.{asked_of, heard, reference}
+use Rattle.serve.specs.Reference.{asked_of, reference}
 use Rattle.serve.specs.Served.{Served, finished, answered, Right}
 
 -- what one call gives

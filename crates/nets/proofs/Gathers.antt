@@ -1,16 +1,12 @@
 -- The items gathered so far, and one more.
-use Rattle.std.proofs.Common.{◌≡◌, ℕ, ◌+◌, ◌-◌, ◌<◌, ◌≤◌, min, Bool, true, false, cond, leb, List, [], ◌∷◌, ◌++◌, length, get_or, take, drop, set, replicate, sym, refl, ap, ◌∙◌, subst, append_assoc, arith}
+use Rattle.std.proofs.Common.{◌≡◌, ℕ, ◌+◌, ◌-◌, ◌<◌, ◌≤◌, min, List, [], ◌∷◌, ◌++◌, length, get_or, take, drop, set, replicate, sym, refl, ap, ◌∙◌, subst, append_assoc, arith}
 use borrow.Rule.Slice.PartMut.{put_mid, same_len_mid}
 use Rattle.std.specs.List.{AllByRecursion as All}
 use Rattle.std.proofs.lemmas.Bool.{lt-leb, le-leb}
 use Rattle.std.proofs.ByRecursion.{All-append}
 use Rattle.std.proofs.lemmas.List.{append-nil, take_more, take-append-drop, take_all, length-append, length-drop, take_rest, drop_at, take_at, drop_all, drop-drop, drop_more, set_at, length_push}
 use Rattle.model.specs.declared.names.Name.{Name}
-use Rattle.model.specs.declared.faults.Fault.{Fault}
-use Rattle.model.specs.declared.faults.Fault.TheVariants.{BufferShort}
-use Rattle.model.specs.Names.{top}
 use Rattle.model.specs.Looks.{Reach, filled, zeroed}
-use Rattle.model.specs.Faults.{plain, told}
 use Rattle.walks.specs.declared.notes.Note.{Note}
 use Rattle.walks.specs.declared.notes.Note.TheVariants.{Own, Arrival}
 use Rattle.nets.specs.Gathering.{each, Steady, Gathered}

@@ -1,11 +1,11 @@
 -- An edit of a net's table, seen as an edit of the stack that the net is the top of.
-use Rattle.std.proofs.Common.{◌≡◌, Result, sym, refl, ap, ◌∙◌, subst}
+use Rattle.std.proofs.Common.{◌≡◌, Result, sym, refl, ap, ◌∙◌}
 use mathlib.Core.Option.{Option, none, some}
 use Rattle.model.specs.declared.faults.Fault.{Fault}
 use Rattle.model.specs.Nets.{Kept}
 use Rattle.model.specs.Model.{Model, net}
 use Rattle.model.specs.Faults.{Refusal}
-use Rattle.model.specs.Edits.{NetEdit, Edit, on_net, End, ended, settled, net_refusal, net_after, edited}
+use Rattle.model.specs.Edits.{NetEdit, Edit, on_net, ended, settled, net_refusal, net_after, edited}
 use Rattle.table.specs.Settling.{Settles}
 
 settled-end : {A B : Type 0} (o : Option Refusal) (new old : A) (new' old' : B) → (settled o new old).0 ≡ (settled o new' old').0

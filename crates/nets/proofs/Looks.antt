@@ -1,6 +1,6 @@
 -- From what a walk notes to the list at an address, and how far up it goes.
-use Rattle.std.proofs.Common.{◌≡◌, ℕ, ◌+◌, ◌<◌, ◌≤◌, Bool, true, false, cond, ◌&&◌, ◌||◌, eqb, ltb, leb, ◌⊎◌, List, [], ◌∷◌, ◌++◌, map, length, Ok, Err, Result, sym, refl, ap, ◌∙◌, subst, inl, inr, arith}
-use mathlib.Core.Option.{Option, none, some}
+use Rattle.std.proofs.Common.{◌≡◌, ℕ, ◌+◌, ◌<◌, ◌≤◌, Bool, true, false, cond, eqb, ltb, leb, List, [], ◌∷◌, ◌++◌, map, length, Ok, Err, Result, sym, refl, ap, ◌∙◌, subst, inl, inr, arith}
+use mathlib.Core.Option.{none, some}
 use Rattle.std.specs.List.{AllByRecursion as All}
 use Rattle.std.proofs.lemmas.Bool.{le-leb, lt-leb, eqb-true, ltb-true, ltb-false, and_parts, or_cases, false≢true}
 use Rattle.std.proofs.lemmas.List.{map-append}
@@ -14,7 +14,7 @@ use Rattle.model.proofs.Bounds.{bound_walked, walks_soon}
 use Rattle.model.proofs.Meeting.{walk_low, at}
 use Rattle.model.specs.Model.{Model, own, gathered, walked, found, lists}
 use Rattle.model.specs.declared.faults.Fault.{Fault}
-use Rattle.model.specs.Faults.{Refusal, plain, told}
+use Rattle.model.specs.Faults.{plain, told}
 use Rattle.model.specs.Looks.{LookAnswer, Reach, filled}
 use Rattle.walks.specs.declared.notes.Note.{Note}
 use Rattle.walks.specs.declared.notes.Note.TheVariants.{Own, Arrival}

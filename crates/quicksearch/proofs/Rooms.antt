@@ -8,7 +8,7 @@ use Rattle.model.specs.Names.{top}
 use Rattle.model.specs.Nets.{Kept, Spot, node, below, spot, within, accepting, mapped, steps, TargetFits}
 use Rattle.walks.specs.Spans.{covers, room, nearest, map_room, reach, lifted}
 use Rattle.quicksearch.specs.declared.memo.Target.{Target}
-use Rattle.quicksearch.specs.Agendas.{spots, address, Room}
+use Rattle.quicksearch.specs.Agendas.{spots, Room}
 use Rattle.quicksearch.proofs.Queues.{address-spot}
 
 pub room_at : (start extent : ℕ) (ts : List Target) (i : ℕ) (d : Target) → Room extent (spots start ts) → i < length ts → ((get_or ts i d).offset + start) % top + extent < top

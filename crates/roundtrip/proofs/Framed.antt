@@ -1,5 +1,5 @@
 -- Each written line, without its line feed, and the frame that a net reads from it.
-use Rattle.std.proofs.Common.{◌≡◌, ℕ, ◌+◌, ◌-◌, ◌%◌, ◌<◌, ◌≤◌, true, cond, ◌&&◌, eqb, ltb, List, [], ◌∷◌, ◌++◌, length, Ok, Err, sym, refl, ap, ◌∙◌, arith}
+use Rattle.std.proofs.Common.{◌≡◌, ℕ, ◌%◌, ◌<◌, true, ◌&&◌, eqb, ltb, List, [], ◌∷◌, ◌++◌, length, Ok, Err, refl, ap, ◌∙◌, arith}
 use Rattle.std.proofs.lemmas.List.{append_assoc, length-append}
 use Rattle.std.proofs.lemmas.Bool.{cond-true}
 use Rattle.model.specs.declared.blocks.AcceptBlock.{AcceptBlock}
@@ -12,7 +12,7 @@ use Rattle.frames.specs.declared.frame.Kinds.TheVariants.{Net}
 use Rattle.frames.specs.Frames.{frame_read}
 use Rattle.frames.specs.Lines.{all_digits, bytes_of, line_read}
 use Rattle.loading.specs.Laws.{unbroken}
-use Rattle.writing.specs.Texts.{enter_line, accept_line, map_line, overlay_line}
+use Rattle.writing.specs.Texts.{enter_line, accept_line, map_line}
 use Rattle.roundtrip.specs.Storing.{GoodAccept, GoodMap}
 use Rattle.roundtrip.proofs.Spelled.{digits_spelled, unbroken-spelled, byte_spelled, word_bytes, word-spelled, word_sum, word_value}
 

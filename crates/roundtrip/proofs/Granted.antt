@@ -1,6 +1,6 @@
 -- Each line of a written text is granted by what the lines before it left.
-use Rattle.std.proofs.Common.{◌≡◌, ℕ, ◌+◌, ◌-◌, ◌<◌, ◌≤◌, Bool, true, false, cond, not, ◌||◌, ltb, leb, List, [], ◌∷◌, ◌++◌, length, Ok, sym, refl, ap, ◌∙◌, arith}
-use mathlib.Core.Option.{Option, none, some}
+use Rattle.std.proofs.Common.{◌≡◌, ℕ, ◌+◌, ◌-◌, ◌<◌, ◌≤◌, Bool, true, false, not, List, [], ◌∷◌, ◌++◌, length, Ok, refl, ap, ◌∙◌, arith}
+use mathlib.Core.Option.{none, some}
 use Rattle.std.specs.List.{AllByRecursion as All}
 use Rattle.std.proofs.lemmas.Bool.{le-leb, lt-ltb, and_parts, or_parts, or_from, not-true, not_from_false, cond-true}
 use Rattle.sets.specs.Members.{some_of}
@@ -10,7 +10,7 @@ use Rattle.model.specs.Names.{top}
 use Rattle.model.specs.Nets.{Kept}
 use Rattle.model.specs.Walks.{Bounded}
 use Rattle.model.specs.Faults.{Refusal}
-use Rattle.model.specs.Edits.{NetEdit, accept, map_to, over, enter, same_accept, same_map, asked, then, settled, net_questions, net_refusal, net_after, walks_bounded}
+use Rattle.model.specs.Edits.{accept, map_to, over, enter, same_accept, same_map, asked, then, settled, net_questions, net_refusal, net_after, walks_bounded}
 use Rattle.model.proofs.Bounds.{bound_walked, walked-asked}
 use Rattle.blocks.specs.Apart.{apart}
 use Rattle.frames.specs.declared.frame.Frame.{Frame}

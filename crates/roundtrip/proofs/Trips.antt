@@ -1,5 +1,5 @@
 -- The round trip: enter, accept blocks, map blocks, overlays, each granted in its turn.
-use Rattle.std.proofs.Common.{◌≡◌, ℕ, zero, suc, ◌+◌, ◌-◌, ◌<◌, ◌≤◌, Bool, true, false, cond, leb, ◌⊎◌, List, [], ◌∷◌, ◌++◌, map, length, get_or, take, set, replicate, Ok, Err, Result, sym, refl, ap, ◌∙◌, subst, inl, inr, arith}
+use Rattle.std.proofs.Common.{◌≡◌, ℕ, zero, suc, ◌+◌, ◌<◌, ◌≤◌, Bool, true, false, cond, leb, ◌⊎◌, List, [], ◌∷◌, ◌++◌, map, length, get_or, set, replicate, Ok, Result, sym, refl, ap, ◌∙◌, subst, inl, inr, arith}
 use Rattle.std.specs.List.{AllByRecursion as All}
 use Rattle.std.proofs.lemmas.List.{append_assoc, append-nil, length-append, length_push, length-map, length-take, set_at, get_or_at, get_or-replicate, get_or_past, length-replicate}
 use Rattle.std.proofs.lemmas.Bool.{leb-true, leb-false, cases_lt}
@@ -8,7 +8,7 @@ use Rattle.model.specs.declared.blocks.AcceptBlock.{AcceptBlock}
 use Rattle.model.specs.declared.blocks.MapBlock.{MapBlock}
 use Rattle.model.specs.Nets.{Kept, fresh}
 use Rattle.model.specs.Walks.{Bounded}
-use Rattle.model.specs.Edits.{same_accept, same_map, with_maps, with_overlays, map_to, over, net_after}
+use Rattle.model.specs.Edits.{same_accept, same_map, with_maps, with_overlays}
 use Rattle.model.proofs.Bounds.{bound_walked, walked_bound}
 use Rattle.model.proofs.Fewer.{less_bound, first-maps, some-overlays}
 use Rattle.blocks.specs.declared.stored.Accepted.{Accepted}
@@ -16,13 +16,12 @@ use Rattle.blocks.specs.declared.stored.Mapped.{Mapped}
 use Rattle.blocks.specs.Apart.{apart}
 use Rattle.blocks.specs.Shape.{kept, accept_block, map_block}
 use Rattle.blocks.proofs.Changes.{swap-accept, swap-map}
-use Rattle.table.specs.declared.table.Table.{Table}
 use Rattle.text.specs.Numbers.{spelled}
 use Rattle.frames.specs.declared.frame.Frame.TheVariants.{Accept, Map, Over, Enter}
 use Rattle.loading.specs.Texts.{lines_of}
 use Rattle.loading.specs.Loads.{Stop, loaded}
 use Rattle.loading.proofs.Lines.{no_line}
-use Rattle.writing.specs.Texts.{enter_line, accept_line, map_line, overlay_line, lines, overlay_lines, text_of}
+use Rattle.writing.specs.Texts.{accept_line, map_line, lines, overlay_lines, text_of}
 use Rattle.roundtrip.specs.Storing.{GoodAccept, GoodMap, Storable}
 use Rattle.roundtrip.specs.Laws.{TablesStorable, WrittenLoads, BytesReturn}
 use Rattle.roundtrip.proofs.Framed.{enter_body, enter_ends, enter-unbroken, enter_reads, over_body, over_ends, over-unbroken, over_reads, accept_body, accept_ends, accept-unbroken, accept_reads, map_body, map_ends, map-unbroken, map_reads}

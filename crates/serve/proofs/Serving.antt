@@ -1,5 +1,5 @@
 -- One call served, and one call more.
-use Rattle.std.proofs.Common.{◌≡◌, ℕ, ◌<◌, ◌≤◌, Bool, true, false, cond, leb, ◌↔◌, List, [], ◌∷◌, ◌++◌, length, Ok, Err, vec_items, vec_len, Result, Vec, sym, refl, ap, ◌∙◌, subst, append_assoc, arith}
+use Rattle.std.proofs.Common.{◌≡◌, ℕ, ◌<◌, Bool, true, false, cond, leb, ◌↔◌, List, [], ◌∷◌, ◌++◌, length, Ok, Err, vec_items, vec_len, Result, Vec, sym, refl, ap, ◌∙◌, subst, append_assoc, arith}
 use Rattle.std.proofs.lemmas.List.{with_items_is}
 use Rattle.std.proofs.lemmas.Bool.{cond-true, cond-false, le-leb, lt-leb}
 use Rattle.std.specs.Vec.{with_items}
@@ -21,7 +21,7 @@ use Rattle.serve.specs.declared.call.Call.{Call}
 use Rattle.serve.specs.declared.call.Call.TheVariants.{Look as look, Flatten as flatten}
 use Rattle.serve.specs.declared.call.Answer.{Answer}
 use Rattle.serve.specs.declared.call.Answer.TheVariants.{Looked as looked-with, Flattened as flattened-with}
-use Rattle.serve.specs.Reference.{Reply, named, recorded, denied, reference, to_look, to_flatten, asked_of, looked, flattened}
+use Rattle.serve.specs.Reference.{named, recorded, denied, reference, to_look, to_flatten, asked_of, looked, flattened}
 use Rattle.serve.specs.Served.{LookRight, FlattenRight, Right, Served, answered}
 
 -- a look

@@ -1,5 +1,5 @@
 -- Calls fed to a stack one after another, and what every answer shows.
-use Rattle.std.specs.Prelude.{◌≡◌, ℕ, ◌<◌, ◌≤◌, true, ◌↔◌, List, [], ◌∷◌, length, take, drop, Ok, Err, vec_items, vec_len, Result}
+use Rattle.std.specs.Prelude.{◌≡◌, ℕ, true, ◌↔◌, List, [], ◌∷◌, length, take, drop, Ok, Err, vec_items, Result}
 use Rattle.model.specs.declared.faults.Fault.{Fault}
 use Rattle.model.specs.declared.names.Name.{Name}
 use Rattle.model.specs.declared.records.Record.{Record}

@@ -1,5 +1,5 @@
 -- Membership in a list, by a test of its elements.
-use Rattle.std.specs.Prelude.{Bool, true, false, ◌||◌, List, [], ◌∷◌}
+use Rattle.std.specs.Prelude.{Bool, false, ◌||◌, List, [], ◌∷◌}
 
 -- whether some element of a list passes a test
 abbrev pub some_of : {A : Type 0} → (A → Bool) → List A → Bool

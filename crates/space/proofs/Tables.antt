@@ -1,13 +1,13 @@
 -- Tables of records, gone through from the first record on.
-use Rattle.std.proofs.Common.{◌≡◌, ℕ, suc, ◌+◌, ◌-◌, ◌<◌, ◌≤◌, min, Bool, true, false, cond, ◌&&◌, ◌||◌, eqb, ltb, leb, ◌⊎◌, List, [], ◌∷◌, ◌++◌, length, get_or, take, drop, set, replicate, sym, refl, ap, ◌∙◌, subst, inl, inr, append_assoc, add-one, arith}
-use mathlib.Core.Option.{Option, none, some}
-use Rattle.std.proofs.lemmas.Bool.{true≢false, false≢true, eqb-true, leb-true, le-leb, lt-leb, ltb-true, lt-ltb, le-ltb, and_from, and_left, and_right, and_parts, or_left, or_cases, cases_Bool, cases_lt, cond-true, cond-false}
-use Rattle.std.proofs.lemmas.List.{at_drop_more, at_drop_all, take_more_set, drop-set-lt, drop-drop, append-nil, take-append-drop, length-append, length-take-le, length-set}
+use Rattle.std.proofs.Common.{◌≡◌, ℕ, suc, ◌+◌, ◌-◌, ◌<◌, ◌≤◌, min, Bool, true, false, cond, ◌&&◌, ◌||◌, eqb, ltb, leb, List, [], ◌∷◌, ◌++◌, length, get_or, take, drop, set, replicate, sym, refl, ap, ◌∙◌, subst, inl, inr, append_assoc, add-one, arith}
+use mathlib.Core.Option.{none, some}
+use Rattle.std.proofs.lemmas.Bool.{false≢true, eqb-true, leb-true, le-leb, lt-leb, ltb-true, and_from, and_left, and_right, and_parts, or_left, or_cases, cases_lt, cond-true, cond-false}
+use Rattle.std.proofs.lemmas.List.{at_drop_more, at_drop_all, take_more_set, drop-set-lt, drop-drop, append-nil, take-append-drop, length-set}
 use Rattle.model.specs.declared.names.Name.{Name}
 use Rattle.model.specs.declared.records.Record.{Record}
 use Rattle.model.specs.Names.{top, raised, raise, same_name, holds}
 use Rattle.model.specs.Nets.{within}
-use Rattle.model.specs.Faults.{Refusal, plain, at_place}
+use Rattle.model.specs.Faults.{at_place}
 use Rattle.model.specs.Bottoms.{led, tabled, misfit, sane, all_sane, steady, steady_all}
 use Rattle.model.specs.Looks.{zeroed, filled, Reach}
 

@@ -1,6 +1,6 @@
 -- Lines written one after another, and how long they are.
 use Rattle.std.proofs.Common.{◌≡◌, ℕ, ◌+◌, ◌*◌, ◌<◌, ◌≤◌, Bool, true, false, cond, leb, List, [], ◌∷◌, ◌++◌, map, length, get_or, drop, set, sym, refl, ap, ◌∙◌, mul-suc, arith}
-use Rattle.std.proofs.lemmas.List.{length-append, length-map, length-take-le, at_drop_more, at_drop_all}
+use Rattle.std.proofs.lemmas.List.{length-append, length-take-le, at_drop_more, at_drop_all}
 use Rattle.std.proofs.lemmas.Bool.{lt-leb, le-leb}
 use Rattle.lists.specs.declared.ArrayVec.{ArrayVec}
 use Rattle.lists.specs.Held.{held}

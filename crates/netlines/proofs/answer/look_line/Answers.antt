@@ -1,4 +1,4 @@
-use Rattle.std.proofs.Common.{◌-◌, length, take, sym, ap, ◌∙◌, subst}
+use Rattle.std.proofs.Common.{◌-◌, take, sym, ap, ◌∙◌}
 use Rattle.netlines.specs.Replies.{names_line_lem, reply_text}
 use Rattle.serve.specs.Reference.{looked}
 use Rattle.netlines.proofs.Single.{take_shown}

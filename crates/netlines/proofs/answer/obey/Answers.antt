@@ -1,4 +1,4 @@
-use Rattle.std.proofs.Common.{◌≡◌, [], ◌∷◌, ◌++◌, vec_items, sym, ap, ◌∙◌}
+use Rattle.std.proofs.Common.{[], ◌∷◌, ◌++◌, vec_items, sym, ap, ◌∙◌}
 use Rattle.nets.specs.Shape.{net_means}
 use Rattle.nets.specs.Meant.{net_meant}
 use Rattle.serve.specs.Reference.{heard, reference}

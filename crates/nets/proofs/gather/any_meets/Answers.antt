@@ -1,5 +1,4 @@
-use Rattle.std.proofs.Common.{◌≡◌, ℕ, List, refl}
-use Rattle.model.specs.declared.names.Name.{Name}
+use Rattle.std.proofs.Common.{refl}
 use Rattle.model.specs.Model.{lists}
 use Rattle.walks.specs.declared.notes.Note.TheVariants.{Own, Arrival}
 use Rattle.nets.proofs.Gathers.{nothing}

@@ -1,8 +1,8 @@
-use Rattle.std.proofs.Common.{◌≡◌, ℕ, List, length, sym, refl, ap, ◌∙◌, arith, rules}
+use Rattle.std.proofs.Common.{ℕ, List, length, refl, ◌∙◌}
 use Rattle.model.specs.declared.names.Name.{Name}
 use Rattle.model.specs.Model.{lists}
 use Rattle.walks.specs.declared.notes.Note.{Note}
-use Rattle.walks.specs.declared.notes.Note.TheVariants.{Own, Arrival}
+use Rattle.walks.specs.declared.notes.Note.TheVariants.{Own}
 use Rattle.nets.proofs.Gathers.{nothing, going_done, going_filled, own-short, own-more, arrival_short, arrival_more, put_size, short-filled, going_as}
 use Rattle.nets.proofs.gather.gather.Goals as goal
 use Rattle.nets.proofs.gather.gather.Goals.{in-Own+else-count-slots, in-Arrival+in-Ok}

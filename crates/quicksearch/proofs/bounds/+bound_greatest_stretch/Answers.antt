@@ -1,4 +1,4 @@
-use Rattle.std.proofs.Common.{◌≡◌, ℕ, ◌-◌, sym, subst, arith}
+use Rattle.std.proofs.Common.{◌≡◌, ℕ, sym, subst, arith}
 use Rattle.std.proofs.ByRecursion.{All-set}
 use Rattle.model.specs.Nets.{Kept, node, spot}
 use Rattle.blocks.specs.Shape.{kept}

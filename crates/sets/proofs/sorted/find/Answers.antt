@@ -1,9 +1,7 @@
 use Rattle.sets.specs.Orders.{Order}
 use Rattle.sets.proofs.Loops.{search_lacks}
-use Rattle.sets.proofs.Ranking.{total}
 use Rattle.sets.proofs.sorted.find.Given as given
 use Rattle.sets.proofs.sorted.find.Goals as goal
-use Rattle.std.proofs.Common.{◌≡◌}
 
 abbrev order : (g : given.Over) → Order g.row.T.Denot
 order g = record {

@@ -1,6 +1,5 @@
 use Rattle.sets.specs.Orders.{Order}
 use Rattle.sets.proofs.Loops.{set_count, set-held, front-rises, front-has, sorted_by_rank}
-use Rattle.sets.proofs.Ranking.{total}
 use Rattle.sets.proofs.Sorting.{sorted-is, up_from_ascends}
 use Rattle.sets.proofs.sorted.make_set.Given as given
 use Rattle.sets.proofs.sorted.make_set.Goals as goal

@@ -1,4 +1,4 @@
-use Rattle.std.proofs.Common.{◌++◌, string_bytes, sym, ap, ◌∙◌}
+use Rattle.std.proofs.Common.{◌++◌, string_bytes, ap, ◌∙◌}
 use Rattle.model.specs.Model.{lists}
 use Rattle.text.specs.Numbers.{spelled}
 use Rattle.tablelook.proofs.Lines.{look_found, look_short}

@@ -1,5 +1,4 @@
 use Rattle.std.proofs.Common.{[], ◌∷◌, sym}
-use Rattle.model.specs.declared.records.Record.{Record}
 use Rattle.model.specs.Bottoms.{misfit}
 use Rattle.model.specs.Faults.{told}
 use Rattle.model.proofs.Settling.{settled-granted, settled-refused}

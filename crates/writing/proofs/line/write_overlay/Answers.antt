@@ -1,4 +1,4 @@
-use Rattle.std.proofs.Common.{◌≡◌, sym, ap, ◌∙◌, arith}
+use Rattle.std.proofs.Common.{sym, ap, ◌∙◌, arith}
 use Rattle.writing.specs.Pasting.{pasted}
 use Rattle.writing.proofs.Pastes.{pasted-nil}
 use Rattle.writing.proofs.Lined.{overlay_none, overlay_some}

@@ -1,4 +1,4 @@
-use Rattle.std.proofs.Common.{◌∙◌, arith, rules}
+use Rattle.std.proofs.Common.{◌∙◌, rules}
 use Rattle.std.proofs.lemmas.List.{length-set}
 use Rattle.blocks.proofs.Changes.{all_set}
 use Rattle.blocks.proofs.stored.Blocks.set_overlay.Goals as goal
