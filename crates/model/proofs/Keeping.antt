@@ -1,7 +1,7 @@
 -- Edits keep a stack sound.
 use Rattle.std.proofs.Common.{◌≡◌, ℕ, ◌+◌, ◌-◌, ◌≤◌, Bool, true, false, cond, ◌&&◌, eqb, List, [], ◌∷◌, ◌++◌, get_or, sym, refl, subst, inl, inr, arith}
 use mathlib.Core.Option.{Option, none, some}
-use Rattle.std.specs.List.{AllByRecursion as All}
+use Rattle.std.specs.List.{AllByRecursion}
 use Rattle.std.proofs.lemmas.Bool.{leb-true, ltb-true, false≢true, or_left, or_right, or_cases}
 use Rattle.std.proofs.ByRecursion.{All-push}
 use Rattle.model.specs.declared.blocks.AcceptBlock.{AcceptBlock}
@@ -40,11 +40,11 @@ module _ (k : Kept) (b : AcceptBlock) where
   pub accept_bound : Bounded k → Bounded more
   accept_bound = less_bound more k accept_fewer
 
-pub all_without : {A : Type 0} (P : A → Type 0) (p : A → Bool) (xs : List A) → All P xs → All P (without p xs)
+pub all_without : {A : Type 0} (P : A → Type 0) (p : A → Bool) (xs : List A) → AllByRecursion P xs → AllByRecursion P (without p xs)
 all_without P p [] h = tt
 all_without P p (x ∷ xs) h = go (p x) (all_without P p xs h.1)
   where
-    go : (b : Bool) → All P (without p xs) → All P (cond b xs (x ∷ without p xs))
+    go : (b : Bool) → AllByRecursion P (without p xs) → AllByRecursion P (cond b xs (x ∷ without p xs))
     go true r = h.1
     go false r = (h.0, r)
 
@@ -53,11 +53,11 @@ then-none : (o p : Option Refusal) → then o p ≡ none → (o ≡ none) × (p 
 then-none none p e = (refl, e)
 then-none (some r) p e = let z : ◌≡◌ {A = ℕ} 0 1 = cc in absurd (omega arith)
 
-asked-all : (qs : List (Bool × Refusal)) → asked qs ≡ none → All (λ q. q.0 ≡ true) qs
+asked-all : (qs : List (Bool × Refusal)) → asked qs ≡ none → AllByRecursion (λ q. q.0 ≡ true) qs
 asked-all [] e = tt
 asked-all (q ∷ qs) e = go q.0 refl e (asked-all qs)
   where
-    go : (b : Bool) → q.0 ≡ b → cond b (asked qs) (some q.1) ≡ none → (asked qs ≡ none → All (λ q. q.0 ≡ true) qs) → (q.0 ≡ true) × All (λ q. q.0 ≡ true) qs
+    go : (b : Bool) → q.0 ≡ b → cond b (asked qs) (some q.1) ≡ none → (asked qs ≡ none → AllByRecursion (λ q. q.0 ≡ true) qs) → (q.0 ≡ true) × AllByRecursion (λ q. q.0 ≡ true) qs
     go true f e ih = (f, ih e)
     go false f e ih = let z : ◌≡◌ {A = ℕ} 0 1 = cc in absurd (omega arith)
 

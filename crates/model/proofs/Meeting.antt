@@ -1,6 +1,6 @@
 -- What a walk meets: its first spots, and with every spot the steps from it, and nothing else.
 use Rattle.std.proofs.Common.{◌≡◌, ℕ, ◌+◌, ◌-◌, ◌<◌, ◌≤◌, Bool, true, false, cond, ◌&&◌, eqb, leb, ◌⊎◌, List, [], ◌∷◌, ◌++◌, get_or, refl, inl, inr, arith}
-use Rattle.std.specs.List.{AllByRecursion as All}
+use Rattle.std.specs.List.{AllByRecursion}
 use Rattle.std.proofs.lemmas.Bool.{and_parts, leb-true}
 use Rattle.model.specs.declared.blocks.MapBlock.{MapBlock}
 use Rattle.model.specs.Names.{top}
@@ -73,7 +73,7 @@ module _ (n a : ℕ) (l : a < top) where
       let j = at-spot b.destination (b.base + (a - b.lo)) in
       omega arith
 
-  mapped-low : (bs : List MapBlock) → All (λ b. TargetFits b.lo b.hi b.base) bs → (s : Spot) → Among s (mapped bs n a) → at s < top
+  mapped-low : (bs : List MapBlock) → AllByRecursion (λ b. TargetFits b.lo b.hi b.base) bs → (s : Spot) → Among s (mapped bs n a) → at s < top
   mapped-low [] f s i = elim i [ ]
   mapped-low (b ∷ bs) f s i = go (eqb b.node n && within b.lo b.hi a) refl (mapped bs n a) (mapped-low bs f.1) s i
     where

@@ -1,6 +1,6 @@
 -- Stacks that decode names which their lists lack.
 use Rattle.std.proofs.Common.{◌≡◌, ℕ, zero, suc, ◌+◌, ◌-◌, ◌<◌, ◌≤◌, Bool, true, false, cond, ◌&&◌, eqb, leb, List, [], ◌∷◌, ◌++◌, length, get_or, replicate, sym, refl, ap, ◌∙◌, subst, arith}
-use Rattle.std.specs.List.{AllByRecursion as All}
+use Rattle.std.specs.List.{AllByRecursion}
 use Rattle.std.proofs.lemmas.Bool.{and_left, and_right, ne_eqb, lt-leb}
 use Rattle.model.specs.declared.blocks.AcceptBlock.{AcceptBlock}
 use Rattle.model.specs.declared.blocks.MapBlock.{MapBlock}
@@ -71,7 +71,7 @@ past-none (suc j) n a l =
     (and_right (eqb 0 n) (within top top a) (and_left (leb top a) (leb a top) (lt-leb top a l)))
     ∙ past-none j n a l
 
-past_fits : (j : ℕ) → All (λ b. TargetFits b.lo b.hi b.base) (replicate j past)
+past_fits : (j : ℕ) → AllByRecursion (λ b. TargetFits b.lo b.hi b.base) (replicate j past)
 past_fits zero = tt
 past_fits (suc j) = (omega arith, past_fits j)
 

@@ -1,7 +1,7 @@
 -- The laws of the reference model: that what it computes is what its relations say.
 use Rattle.std.specs.Prelude.{◌≡◌, ℕ, ◌<◌, ◌≤◌, true, false, ◌↔◌, List, length}
 use Rattle.std.proofs.Math.Option.{none, some}
-use Rattle.std.specs.List.{AllByRecursion as All}
+use Rattle.std.specs.List.{AllByRecursion}
 use Rattle.model.specs.declared.names.Name.{Name}
 use Rattle.model.specs.Names.{top, holds}
 use Rattle.model.specs.Nets.{Kept, Spot, TargetFits, fresh}
@@ -56,7 +56,7 @@ QuestionTells = (k : Kept) (n a : ℕ) → (walks_bounded k ≡ some (at_name 8 
 -- Bounded walks alone do not do: without any one of the three that keep decoding in bounds there is a stack that decodes a name its list lacks.
 -- The entry is no node:
 abbrev pub EntryNeeded : Type 0
-EntryNeeded = (k : Kept) × (m : Model) × (x : Name) × Sound m × Bounded k × All (λ b. TargetFits b.lo b.hi b.base) k.maps × Decodes (net k m) 0 x × (holds (lists (net k m) 0) x ≡ false)
+EntryNeeded = (k : Kept) × (m : Model) × (x : Name) × Sound m × Bounded k × AllByRecursion (λ b. TargetFits b.lo b.hi b.base) k.maps × Decodes (net k m) 0 x × (holds (lists (net k m) 0) x ≡ false)
 
 -- a map block's target does not fit:
 abbrev pub TargetNeeded : Type 0

@@ -1,6 +1,6 @@
 -- What one net keeps, and the steps of its nodes.
 use Rattle.std.specs.Prelude.{ℕ, ◌+◌, ◌-◌, ◌<◌, Bool, false, cond, ◌&&◌, ◌||◌, List, [], ◌∷◌, replicate, ◌==◌, nat_le, slice_index_or}
-use Rattle.std.specs.List.{AllByRecursion as All}
+use Rattle.std.specs.List.{AllByRecursion}
 use Rattle.model.specs.declared.blocks.AcceptBlock.{AcceptBlock}
 use Rattle.model.specs.declared.blocks.MapBlock.{MapBlock}
 use Rattle.model.specs.Names.{top}
@@ -58,4 +58,4 @@ TargetFits lo hi base = base + (hi - lo) < top
 -- a walk from outside starts at one of the 32 nodes, and an address below the top stays below it: the entry is a node, and every map block's target fits
 pub record Formed (k : Kept) : Type 0 where
   pub entry_known : k.entry < 32
-  pub targets_fit : All (λ b. TargetFits b.lo b.hi b.base) k.maps
+  pub targets_fit : AllByRecursion (λ b. TargetFits b.lo b.hi b.base) k.maps

@@ -1,7 +1,7 @@
 -- The items gathered so far, and one more.
 use Rattle.std.proofs.Common.{◌≡◌, ℕ, ◌+◌, ◌-◌, ◌<◌, ◌≤◌, min, List, [], ◌∷◌, ◌++◌, length, get_or, take, drop, set, replicate, sym, refl, ap, ◌∙◌, subst, append_assoc, arith}
 use borrow.Rule.Slice.PartMut.{put_mid, same_len_mid}
-use Rattle.std.specs.List.{AllByRecursion as All}
+use Rattle.std.specs.List.{AllByRecursion}
 use Rattle.std.proofs.lemmas.Bool.{lt-leb, le-leb}
 use Rattle.std.proofs.ByRecursion.{All-append}
 use Rattle.std.proofs.lemmas.List.{append-nil, take_more, take-append-drop, take_all, length-append, length-drop, take_rest, drop_at, take_at, drop_all, drop-drop, drop_more, set_at, length_push}
@@ -51,7 +51,7 @@ shorter f a far near r h k =
       none_past = λ d l. r.none_past d (omega arith);
     }
 
-steady-less : (f : ℕ → List Name) (room less : ℕ) → less ≤ room → (xs : List Note) → All (Steady f room) xs → All (Steady f less) xs
+steady-less : (f : ℕ → List Name) (room less : ℕ) → less ≤ room → (xs : List Note) → AllByRecursion (Steady f room) xs → AllByRecursion (Steady f less) xs
 steady-less f room less h [] s = tt
 steady-less f room less h (Own x ∷ xs) s = (tt, steady-less f room less h xs s.1)
 steady-less f room less h (Arrival a ∷ xs) s = (shorter f a (a + room) (a + less) s.0 (omega arith) (omega arith), steady-less f room less h xs s.1)
@@ -62,7 +62,7 @@ pub record Going (f : ℕ → List Name) (xs : List Note) (span i count room : �
   pub placed : slots ≡ each f (take i xs) ++ drop count old
   pub within : count ≤ length old
   pub near : room ≤ span
-  pub quiet : All (Steady f room) (take i xs)
+  pub quiet : AllByRecursion (Steady f room) (take i xs)
 
 module _ (f : ℕ → List Name) (xs : List Note) (span : ℕ) (old : List Name) where
   pub going_start : Going f xs span 0 0 span old old
@@ -76,7 +76,7 @@ module _ (f : ℕ → List Name) (xs : List Note) (span : ℕ) (old : List Name)
           counts = g.counted ∙ ap (λ l. length (each f l)) e;
           fits = g.within;
           less = g.near;
-          steady = subst (All (Steady f room)) e g.quiet;
+          steady = subst (AllByRecursion (Steady f room)) e g.quiet;
         }
 
     pub going_filled : length xs ≤ i → slots ≡ filled (each f xs) old
@@ -120,7 +120,7 @@ module _ (f : ℕ → List Name) (xs : List Note) (span : ℕ) (old : List Name)
                 ∙ ap (λ l. l ++ drop (count + 1) old) (sym (each_more f xs i d (Own x) at is));
             within = omega (arith, s);
             near = g.near;
-            quiet = subst (All (Steady f room)) (sym (take_more xs i d at ∙ ap (λ y. take i xs ++ y ∷ []) is)) (All-append (Steady f room) (take i xs) (Own x ∷ []) g.quiet (tt, tt));
+            quiet = subst (AllByRecursion (Steady f room)) (sym (take_more xs i d at ∙ ap (λ y. take i xs ++ y ∷ []) is)) (All-append (Steady f room) (take i xs) (Own x ∷ []) g.quiet (tt, tt));
           }
 
     module _ (a : ℕ) (d : Note) (at : i < length xs) (is : get_or xs i d ≡ Arrival a) where
@@ -174,7 +174,7 @@ module _ (f : ℕ → List Name) (xs : List Note) (span : ℕ) (old : List Name)
             within = omega (arith, hm, ps, w);
             near = omega (arith, near);
             quiet =
-                subst (All (Steady f (min room (reach - a)))) (sym (take_more xs i d at ∙ ap (λ y. take i xs ++ y ∷ []) is))
+                subst (AllByRecursion (Steady f (min room (reach - a)))) (sym (take_more xs i d at ∙ ap (λ y. take i xs ++ y ∷ []) is))
                 (All-append (Steady f (min room (reach - a))) (take i xs) (Arrival a ∷ [])
                 (steady-less f room (min room (reach - a)) (omega arith) (take i xs) g.quiet)
                 (shorter f a reach (a + min room (reach - a)) r (omega arith) (omega (arith, rl)), tt));

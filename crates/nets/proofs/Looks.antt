@@ -1,7 +1,7 @@
 -- From what a walk notes to the list at an address, and how far up it goes.
 use Rattle.std.proofs.Common.{◌≡◌, ℕ, ◌+◌, ◌<◌, ◌≤◌, Bool, true, false, cond, eqb, ltb, leb, List, [], ◌∷◌, ◌++◌, map, length, Ok, Err, Result, sym, refl, ap, ◌∙◌, subst, inl, inr, arith}
 use mathlib.Core.Option.{none, some}
-use Rattle.std.specs.List.{AllByRecursion as All}
+use Rattle.std.specs.List.{AllByRecursion}
 use Rattle.std.proofs.lemmas.Bool.{le-leb, lt-leb, eqb-true, ltb-true, ltb-false, and_parts, or_cases, false≢true}
 use Rattle.std.proofs.lemmas.List.{map-append}
 use Rattle.model.specs.declared.names.Name.{Name}
@@ -32,7 +32,7 @@ gathered-each k f (node n a ∷ met) =
     [ true ↦ ap (λ l. own k n a ∷ l) (gathered-each k f met) | false ↦ gathered-each k f met ]
 gathered-each k f (below a ∷ met) = ap (λ l. f a ++ l) (gathered-each k f met)
 
-each-raised : (f : ℕ → List Name) (room d : ℕ) → d ≤ room → (xs : List Note) → All (Steady f room) xs → each f (map (note_up d) xs) ≡ raise d (each f xs)
+each-raised : (f : ℕ → List Name) (room d : ℕ) → d ≤ room → (xs : List Note) → AllByRecursion (Steady f room) xs → each f (map (note_up d) xs) ≡ raise d (each f xs)
 each-raised f room d h [] s = refl
 each-raised f room d h (Own x ∷ xs) s = ap (λ l. raised d x ∷ l) (each-raised f room d h xs s.1)
 each-raised f room d h (Arrival a ∷ xs) s =
@@ -44,7 +44,7 @@ abbrev LowNote : Note → Type 0
 LowNote (Own x) = x.address < top
 LowNote (Arrival a) = a < top
 
-each-low : (f : ℕ → List Name) (room d : ℕ) → d ≤ room → (xs : List Note) → All (Steady f room) xs → All LowNote (map (note_up d) xs)
+each-low : (f : ℕ → List Name) (room d : ℕ) → d ≤ room → (xs : List Note) → AllByRecursion (Steady f room) xs → AllByRecursion LowNote (map (note_up d) xs)
     → (x : Name) → holds (each f (map (note_up d) xs)) x ≡ true → x.address < top
 each-low f room d h [] s l x e = let y : ◌≡◌ {A = Bool} false true = e in let z : ◌≡◌ {A = ℕ} 0 1 = cc in absurd (omega arith)
 each-low f room d h (Own y ∷ xs) s l x e =
@@ -58,19 +58,19 @@ each-low f room d h (Arrival a ∷ xs) s l x e =
       | inr u ↦ each-low f room d h xs s.1 l.1 x u
     ]
 
-noted-low : (k : Kept) (met : List Spot) → All (λ s. at s < top) met → All LowNote (noted k met)
+noted-low : (k : Kept) (met : List Spot) → AllByRecursion (λ s. at s < top) met → AllByRecursion LowNote (noted k met)
 noted-low k [] h = tt
 noted-low k (node n a ∷ met) h =
-    elim (accepting k.accepts n a) as (λ v. All LowNote (cond v (Own (own k n a) ∷ noted k met) (noted k met)))
+    elim (accepting k.accepts n a) as (λ v. AllByRecursion LowNote (cond v (Own (own k n a) ∷ noted k met) (noted k met)))
     [ true ↦ (h.0, noted-low k met h.1) | false ↦ noted-low k met h.1 ]
 noted-low k (below a ∷ met) h = (h.0, noted-low k met h.1)
 
 -- a walk from below the top stays below it
-all-low : (met : List Spot) → ((s : Spot) → Among s met → at s < top) → All (λ s. at s < top) met
+all-low : (met : List Spot) → ((s : Spot) → Among s met → at s < top) → AllByRecursion (λ s. at s < top) met
 all-low [] h = tt
 all-low (s ∷ met) h = (h s here, all-low met (λ t i. h t (later i)))
 
-trace-low : (k : Kept) → Formed k → (n a : ℕ) → a < top → (met : List Spot) → trace k 64 (node n a ∷ []) ≡ some met → All (λ s. at s < top) met
+trace-low : (k : Kept) → Formed k → (n a : ℕ) → a < top → (met : List Spot) → trace k 64 (node n a ∷ []) ≡ some met → AllByRecursion (λ s. at s < top) met
 trace-low k f n a l met e = all-low met (walk_low k f n a l (sound k 64 (node n a ∷ []) met e).0)
 
 -- a sound net grants every walk
@@ -100,10 +100,10 @@ module _ (t : Inner) (m : Model) (n a : ℕ) (items : List Note) (span : ℕ) (w
       ap (walked t.keeps (lists m)) (w.alike d h) ∙ gathered-each t.keeps (lists m) (map (lifted d) w.met)
       ∙ ap (each (lists m)) (w.noted_alike d h ∙ ap (map (note_up d)) (sym w.listed))
 
-  low_up : (d : ℕ) → d ≤ span → All LowNote (map (note_up d) items)
+  low_up : (d : ℕ) → d ≤ span → AllByRecursion LowNote (map (note_up d) items)
   low_up d h =
       let l = w.last in
-      subst (All LowNote) (w.noted_alike d h ∙ ap (map (note_up d)) (sym w.listed)) (noted-low t.keeps (map (lifted d) w.met) (trace-low t.keeps t.formed_so n (a + d) (omega arith) (map (lifted d) w.met) (w.alike d h)))
+      subst (AllByRecursion LowNote) (w.noted_alike d h ∙ ap (map (note_up d)) (sym w.listed)) (noted-low t.keeps (map (lifted d) w.met) (trace-low t.keeps t.formed_so n (a + d) (omega arith) (map (lifted d) w.met) (w.alike d h)))
 
   reaches : (count room size : ℕ) → Gathered (lists m) items span count room size → Reach (found t.keeps (lists m) n) a (a + room)
   reaches count room size g =

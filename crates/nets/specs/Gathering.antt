@@ -1,6 +1,6 @@
 -- What noted items stand for over the space below.
 use Rattle.std.specs.Prelude.{◌≡◌, ℕ, ◌+◌, ◌≤◌, List, [], ◌∷◌, ◌++◌, length}
-use Rattle.std.specs.List.{AllByRecursion as All}
+use Rattle.std.specs.List.{AllByRecursion}
 use Rattle.model.specs.declared.names.Name.{Name}
 use Rattle.model.specs.Looks.{Reach}
 use Rattle.walks.specs.declared.notes.Note.{Note}
@@ -20,4 +20,4 @@ pub record Gathered (under : ℕ → List Name) (items : List Note) (span count 
   pub counts : count ≡ length (each under items)
   pub fits : count ≤ size
   pub less : room ≤ span
-  pub steady : All (Steady under room) items
+  pub steady : AllByRecursion (Steady under room) items

@@ -1,7 +1,7 @@
 -- What is remembered, read and written at a place.
 use Rattle.std.proofs.Common.{◌≡◌, ℕ, zero, suc, ◌+◌, ◌<◌, ◌≤◌, List, ◌∷◌, length, get_or, take, drop, replicate, sym, ap, ◌∙◌, subst, arith}
 use Rattle.std.proofs.lemmas.List.{drop_more, drop_all, take_all}
-use Rattle.std.specs.List.{AllByRecursion as All}
+use Rattle.std.specs.List.{AllByRecursion}
 use Rattle.model.specs.Nets.{Kept, node}
 use Rattle.quicksearch.specs.declared.memo.Target.{Target}
 use Rattle.quicksearch.specs.declared.memo.RangeBound.{RangeBound}
@@ -11,7 +11,7 @@ use Rattle.quicksearch.specs.Agendas.{placed, spots}
 use Rattle.quicksearch.specs.Remembered.{Holds, Bounds, Passes}
 use Rattle.quicksearch.proofs.Exceeds.{within-less}
 
-pub all_same : {X : Type 0} (P : X → Type 0) (n : ℕ) (y : X) → P y → All P (replicate n y)
+pub all_same : {X : Type 0} (P : X → Type 0) (n : ℕ) (y : X) → P y → AllByRecursion P (replicate n y)
 all_same P zero y h = tt
 all_same P (suc n) y h = (h, all_same P n y h)
 

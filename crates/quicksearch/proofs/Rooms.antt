@@ -2,7 +2,7 @@
 use Rattle.std.proofs.Common.{◌≡◌, ℕ, zero, suc, ◌+◌, ◌-◌, ◌%◌, ◌<◌, ◌≤◌, Bool, true, false, cond, eqb, leb, List, [], ◌∷◌, ◌++◌, map, length, get_or, sym, refl, ap, ◌∙◌, subst, arith}
 use Rattle.std.proofs.lemmas.Bool.{and_parts, leb-true}
 use Rattle.std.proofs.lemmas.Bool.Decides.{nat_tests}
-use Rattle.std.specs.List.{AllByRecursion as All}
+use Rattle.std.specs.List.{AllByRecursion}
 use Rattle.model.specs.declared.blocks.MapBlock.{MapBlock}
 use Rattle.model.specs.Names.{top}
 use Rattle.model.specs.Nets.{Kept, Spot, node, below, spot, within, accepting, mapped, steps, TargetFits}
@@ -36,12 +36,12 @@ module _ (n a r : ℕ) where
       one_room b.destination (b.base + (a - b.lo)) xs (omega arith) u
   map_one b false e f h xs u = u
 
-  maps-room : (bs : List MapBlock) → All (λ b. TargetFits b.lo b.hi b.base) bs → r ≤ nearest (map_room n a) bs → Room r (mapped bs n a)
+  maps-room : (bs : List MapBlock) → AllByRecursion (λ b. TargetFits b.lo b.hi b.base) bs → r ≤ nearest (map_room n a) bs → Room r (mapped bs n a)
   maps-room [] f h = tt
   maps-room (b ∷ bs) f h = map_one b (covers b.node b.lo b.hi n a) refl f.0 (omega arith) (mapped bs n a) (maps-room bs f.1 (omega arith))
 
   -- the steps from an address may be raised on its stretch
-  pub room-steps : (k : Kept) → All (λ b. TargetFits b.lo b.hi b.base) k.maps → r ≤ reach k n a → a + r < top → Room r (steps k n a)
+  pub room-steps : (k : Kept) → AllByRecursion (λ b. TargetFits b.lo b.hi b.base) k.maps → r ≤ reach k n a → a + r < top → Room r (steps k n a)
   room-steps k f h l = go (mapped k.maps n a) (maps-room k.maps f (omega arith)) (accepting k.accepts n a) (leb (get_or k.overlays n 33) 32)
     where
       go : (xs : List Spot) → Room r xs → (acc low : Bool) → Room r (elim xs [ [] ↦ cond acc [] (cond low (spot (get_or k.overlays n 33) a ∷ []) []) | x ∷ xs ↦ x ∷ xs ])

@@ -4,7 +4,7 @@ use borrow.Rule.Slice.PartMut.{put_mid}
 use Rattle.std.proofs.lemmas.List.{length-append, length-take-le, length-drop, map-append, take-append-drop, take-take, take_at, drop_at}
 use Rattle.std.proofs.lemmas.Slice.{take-put_mid, drop-put_mid}
 use Rattle.std.proofs.ByRecursion.{All-append}
-use Rattle.std.specs.List.{AllByRecursion as All}
+use Rattle.std.specs.List.{AllByRecursion}
 use Rattle.model.specs.Names.{top}
 use Rattle.model.specs.Nets.{Kept, Spot}
 use Rattle.quicksearch.specs.declared.memo.Target.{Target}
@@ -13,11 +13,11 @@ use Rattle.quicksearch.specs.Agendas.{placed, spots, waiting, address, Room}
 use Rattle.quicksearch.proofs.Exceeds.{first-swap}
 use Rattle.quicksearch.proofs.Queues.{sliced, length-waiting}
 
-all-front : {X : Type 0} (P : X → Type 0) (xs ys : List X) → All P (xs ++ ys) → All P xs
+all-front : {X : Type 0} (P : X → Type 0) (xs ys : List X) → AllByRecursion P (xs ++ ys) → AllByRecursion P xs
 all-front P [] ys u = tt
 all-front P (x ∷ xs) ys u = (u.0, all-front P xs ys u.1)
 
-all_back : {X : Type 0} (P : X → Type 0) (xs ys : List X) → All P (xs ++ ys) → All P ys
+all_back : {X : Type 0} (P : X → Type 0) (xs ys : List X) → AllByRecursion P (xs ++ ys) → AllByRecursion P ys
 all_back P [] ys u = u
 all_back P (x ∷ xs) ys u = all_back P xs ys u.1
 

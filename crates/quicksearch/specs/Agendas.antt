@@ -1,6 +1,6 @@
 -- The spots that wait in a queue.
 use Rattle.std.specs.Prelude.{◌≡◌, ℕ, ◌+◌, ◌%◌, ◌<◌, ◌≤◌, List, map, length, take, drop, Some, None, Option}
-use Rattle.std.specs.List.{AllByRecursion as All}
+use Rattle.std.specs.List.{AllByRecursion}
 use Rattle.model.specs.Names.{top}
 use Rattle.model.specs.Nets.{Spot, node, below, spot}
 use Rattle.quicksearch.specs.declared.memo.Target.{Target}
@@ -22,7 +22,7 @@ address (below a) = a
 
 -- each of the spots may be raised by `extent`
 abbrev pub Room : ℕ → List Spot → Type 0
-Room extent xs = All (λ s. address s + extent < top) xs
+Room extent xs = AllByRecursion (λ s. address s + extent < top) xs
 
 -- the spots are laid out in the queue from tail on, or it is too short for that
 abbrev pub Laid : List Spot → ℕ → ℕ → List Target → Option ℕ → Type 0

@@ -1,6 +1,6 @@
 -- What a search remembers is so.
 use Rattle.std.specs.Prelude.{ℕ, ◌≤◌, [], ◌∷◌, take}
-use Rattle.std.specs.List.{AllByRecursion as All}
+use Rattle.std.specs.List.{AllByRecursion}
 use Rattle.model.specs.Nets.{Kept, Spot, node}
 use Rattle.quicksearch.specs.declared.memo.RangeBound.{RangeBound}
 use Rattle.quicksearch.specs.declared.memo.PassedAgenda.{PassedAgenda}
@@ -20,4 +20,4 @@ Passes k e = Within k e.budget (spots e.start (take e.count e.targets)) e.extent
 
 -- each bound and each agenda that is remembered
 abbrev pub Reliable : Kept → Memo → Type 0
-Reliable k m = All (Bounds k) m.bounds × All (Passes k) m.agendas
+Reliable k m = AllByRecursion (Bounds k) m.bounds × AllByRecursion (Passes k) m.agendas

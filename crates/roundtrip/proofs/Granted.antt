@@ -1,7 +1,7 @@
 -- Each line of a written text is granted by what the lines before it left.
 use Rattle.std.proofs.Common.{◌≡◌, ℕ, ◌+◌, ◌-◌, ◌<◌, ◌≤◌, Bool, true, false, not, List, [], ◌∷◌, ◌++◌, length, Ok, refl, ap, ◌∙◌, arith}
 use mathlib.Core.Option.{none, some}
-use Rattle.std.specs.List.{AllByRecursion as All}
+use Rattle.std.specs.List.{AllByRecursion}
 use Rattle.std.proofs.lemmas.Bool.{le-leb, lt-ltb, and_parts, or_parts, or_from, not-true, not_from_false, cond-true}
 use Rattle.sets.specs.Members.{some_of}
 use Rattle.model.specs.declared.blocks.AcceptBlock.{AcceptBlock}
@@ -22,7 +22,7 @@ use Rattle.loading.specs.Laws.{unbroken}
 use Rattle.loading.proofs.Lines.{ended-line}
 use Rattle.roundtrip.specs.Storing.{GoodAccept, GoodMap}
 
-all_asked : (qs : List (Bool × Refusal)) → All (λ q. q.0 ≡ true) qs → asked qs ≡ none
+all_asked : (qs : List (Bool × Refusal)) → AllByRecursion (λ q. q.0 ≡ true) qs → asked qs ≡ none
 all_asked [] h = refl
 all_asked (q ∷ qs) h = cond-true q.0 (asked qs) (some q.1) h.0 ∙ all_asked qs h.1
 

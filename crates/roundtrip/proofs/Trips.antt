@@ -1,6 +1,6 @@
 -- The round trip: enter, accept blocks, map blocks, overlays, each granted in its turn.
 use Rattle.std.proofs.Common.{◌≡◌, ℕ, zero, suc, ◌+◌, ◌<◌, ◌≤◌, Bool, true, false, cond, leb, ◌⊎◌, List, [], ◌∷◌, ◌++◌, map, length, get_or, set, replicate, Ok, Result, sym, refl, ap, ◌∙◌, subst, inl, inr, arith}
-use Rattle.std.specs.List.{AllByRecursion as All}
+use Rattle.std.specs.List.{AllByRecursion}
 use Rattle.std.proofs.lemmas.List.{append_assoc, append-nil, length-append, length_push, length-map, length-take, set_at, get_or_at, get_or-replicate, get_or_past, length-replicate}
 use Rattle.std.proofs.lemmas.Bool.{leb-true, leb-false, cases_lt}
 use Rattle.lists.specs.Held.{held}
@@ -27,7 +27,7 @@ use Rattle.roundtrip.specs.Laws.{TablesStorable, WrittenLoads, BytesReturn}
 use Rattle.roundtrip.proofs.Framed.{enter_body, enter_ends, enter-unbroken, enter_reads, over_body, over_ends, over-unbroken, over_reads, accept_body, accept_ends, accept-unbroken, accept_reads, map_body, map_ends, map-unbroken, map_reads}
 use Rattle.roundtrip.proofs.Granted.{not-before, accept-granted, map-granted, over-granted, enter-granted, line-granted}
 
-all-at : {X : Type 0} (P : X → Type 0) (xs : List X) (x : X) (ys : List X) → All P (xs ++ x ∷ ys) → P x
+all-at : {X : Type 0} (P : X → Type 0) (xs : List X) (x : X) (ys : List X) → AllByRecursion P (xs ++ x ∷ ys) → P x
 all-at P [] x ys h = h.0
 all-at P (z ∷ xs) x ys h = all-at P xs x ys h.1
 
@@ -62,7 +62,7 @@ module _ (k : Kept) (s : Storable k) where
       → (i : ℕ) → loaded i (with_first_accepts seen) (lines_of (lines accept_line rest ++ cs)) ≡ goal
   accepts_on seen [] e cs goal h i = ap (λ l. loaded i (with_first_accepts l) (lines_of cs)) (sym (append-nil seen) ∙ e) ∙ h i
   accepts_on seen (b ∷ rest) e cs goal h i =
-      let g : GoodAccept b = all-at GoodAccept seen b rest (subst (λ l. All GoodAccept l) (sym e) s.good_accepts) in
+      let g : GoodAccept b = all-at GoodAccept seen b rest (subst (λ l. AllByRecursion GoodAccept l) (sym e) s.good_accepts) in
       let new = not-before same_accept swap-accept seen b rest (ap (apart same_accept) e ∙ s.accepts_apart) in
       let count = length-append seen (b ∷ rest) in
       let all = ap length e in
@@ -76,7 +76,7 @@ module _ (k : Kept) (s : Storable k) where
       → (i : ℕ) → loaded i (with_first_maps seen) (lines_of (lines map_line rest ++ cs)) ≡ goal
   maps_on seen [] e cs goal h i = ap (λ l. loaded i (with_first_maps l) (lines_of cs)) (sym (append-nil seen) ∙ e) ∙ h i
   maps_on seen (b ∷ rest) e cs goal h i =
-      let g : GoodMap b = all-at GoodMap seen b rest (subst (λ l. All GoodMap l) (sym e) s.good_maps) in
+      let g : GoodMap b = all-at GoodMap seen b rest (subst (λ l. AllByRecursion GoodMap l) (sym e) s.good_maps) in
       let new = not-before same_map swap-map seen b rest (ap (apart same_map) e ∙ s.maps_apart) in
       let next = append_assoc seen (b ∷ []) rest ∙ e in
       let count = length-append seen (b ∷ rest) in
@@ -152,11 +152,11 @@ pub bytes_return : BytesReturn
 bytes_return k m s e = let q : m ≡ k = cc (come_back k s) in ap text_of q
 
 -- every table can be stored
-good_accepts : (xs : List Accepted) → All GoodAccept (map accept_block xs)
+good_accepts : (xs : List Accepted) → AllByRecursion GoodAccept (map accept_block xs)
 good_accepts [] = tt
 good_accepts (x ∷ xs) = (record { node_known = x.valid.0; rises = x.valid.1; low = x.valid.2 }, good_accepts xs)
 
-good_maps : (xs : List Mapped) → All GoodMap (map map_block xs)
+good_maps : (xs : List Mapped) → AllByRecursion GoodMap (map map_block xs)
 good_maps [] = tt
 good_maps (x ∷ xs) = (record { node_known = x.valid.0; destination_known = x.valid.1; rises = x.valid.2; low = x.valid.3; target_fits = x.valid.4 }, good_maps xs)
 

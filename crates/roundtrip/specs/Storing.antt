@@ -1,6 +1,6 @@
 -- What a net can keep, said of the reference model alone.
 use Rattle.std.specs.Prelude.{◌≡◌, ℕ, ◌+◌, ◌-◌, ◌<◌, ◌≤◌, true, length, slice_index}
-use Rattle.std.specs.List.{AllByRecursion as All}
+use Rattle.std.specs.List.{AllByRecursion}
 use Rattle.model.specs.declared.blocks.AcceptBlock.{AcceptBlock}
 use Rattle.model.specs.declared.blocks.MapBlock.{MapBlock}
 use Rattle.model.specs.Names.{top}
@@ -24,8 +24,8 @@ pub record GoodMap (b : MapBlock) : Type 0 where
 -- good blocks within the budgets, no two of a kind the same; 32 overlays, of which 33 is none; a node as entry; and every walk ends
 pub record Storable (k : Kept) : Type 0 where
   pub entry_known : k.entry < 32
-  pub good_accepts : All GoodAccept k.accepts
-  pub good_maps : All GoodMap k.maps
+  pub good_accepts : AllByRecursion GoodAccept k.accepts
+  pub good_maps : AllByRecursion GoodMap k.maps
   pub accepts_apart : apart same_accept k.accepts ≡ true
   pub maps_apart : apart same_map k.maps ≡ true
   pub few_accepts : length k.accepts ≤ 64

@@ -2,7 +2,7 @@
 use Rattle.std.proofs.Common.{◌≡◌, ◌==◌, ℕ, zero, suc, ◌+◌, ◌-◌, ◌<◌, ◌≤◌, Bool, true, false, cond, not, ◌||◌, List, [], ◌∷◌, ◌++◌, length, get_or, take, drop, set, Ordering, Less, Equal, Greater, sym, refl, ap, ◌∙◌, subst, ⊎_elim, append_assoc, add-one, arith}
 use Rattle.std.specs.Ordering.{is_eq, is_lt, is_gt, ordering_index}
 use Rattle.std.specs.List.Sorted.{IsNonDecreasingBy, IsPartitionPoint, IsSortedWithin, IsSorted}
-use Rattle.std.specs.List.{AllByRecursion as All}
+use Rattle.std.specs.List.{AllByRecursion}
 use Rattle.std.proofs.ByRecursion.{All-get_or, All-from_get_or}
 use Rattle.std.proofs.lemmas.List.{at_drop_more, at_drop_all, drop_more, drop_all, drop-drop, drop-set-lt, get_or-drop, get_or_read, get_or-set_same, length-set, length-take-le, append-nil, take-append-drop, take_at, take_more_set}
 use Rattle.std.proofs.lemmas.List.Sorted.{searchable_from_sorted}
@@ -167,7 +167,7 @@ module _ {A : Type 0} (o : Order A) where
   ascends : (xs : List A) → Up o xs → IsSortedWithin (λ x y. is_lt (o.rank x y)) xs 0 (length xs)
   ascends xs u k d a l = rw add-one (let m : suc k < length xs = omega arith in not-above (get_or xs k d) (get_or xs (suc k) d) (up_next xs u k d m))
 
-  lacks_all : (w : A) (xs : List A) → All (λ y. o.same y w ≡ false) xs → some_of (λ y. o.same y w) xs ≡ false
+  lacks_all : (w : A) (xs : List A) → AllByRecursion (λ y. o.same y w ≡ false) xs → some_of (λ y. o.same y w) xs ≡ false
   lacks_all w [] h = refl
   lacks_all w (x ∷ xs) h = λ j. h.0 j || lacks_all w xs h.1 j
 

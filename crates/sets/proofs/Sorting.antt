@@ -3,7 +3,7 @@ use Rattle.std.proofs.Common.{◌≡◌, ℕ, suc, ◌+◌, ◌<◌, ◌≤◌, 
 use Rattle.std.specs.Ordering.{is_lt, is_gt, ordering_reverse}
 use Rattle.std.specs.List.Sorted.{IsPermutation, IsSortedWithin}
 use Rattle.std.specs.Cmp.{IsStrictWeakOrder}
-use Rattle.std.specs.List.{AllByRecursion as All}
+use Rattle.std.specs.List.{AllByRecursion}
 use Rattle.std.proofs.ByRecursion.{All-weaker, All-from_get_or}
 use Rattle.std.proofs.lemmas.List.Sorted.{sum_by-IsPermutation, sorted_far}
 use Rattle.sets.specs.Members.{some_of}
@@ -58,11 +58,11 @@ module _ {A : Type 0} (rank : A → A → Ordering) where
   times_sorted p [] = refl
   times_sorted p (x ∷ xs) = times_placed p x (sorted rank xs) ∙ ap (λ n. cond (p x) 1 0 + n) (times_sorted p xs)
 
-  placed-all : (P : A → Type 0) (x y : A) (ys : List A) (t : Bool) → P x → P y → All P ys → All P (placed rank x ys) → All P (cond t (y ∷ placed rank x ys) (x ∷ (y ∷ ys)))
+  placed-all : (P : A → Type 0) (x y : A) (ys : List A) (t : Bool) → P x → P y → AllByRecursion P ys → AllByRecursion P (placed rank x ys) → AllByRecursion P (cond t (y ∷ placed rank x ys) (x ∷ (y ∷ ys)))
   placed-all P x y ys true a b c d = (b, d)
   placed-all P x y ys false a b c d = (a, (b, c))
 
-  pub all_placed : (P : A → Type 0) (x : A) (ys : List A) → P x → All P ys → All P (placed rank x ys)
+  pub all_placed : (P : A → Type 0) (x : A) (ys : List A) → P x → AllByRecursion P ys → AllByRecursion P (placed rank x ys)
   all_placed P x [] a h = (a, tt)
   all_placed P x (y ∷ ys) a h = placed-all P x y ys (is_lt (rank y x)) a h.0 h.1 (all_placed P x ys a h.1)
 
@@ -70,9 +70,9 @@ module _ {A : Type 0} (o : Order A) where
   -- no element is above a later one
   abbrev pub Up : List A → Type 0
   Up [] = Unit {0}
-  Up (x ∷ xs) = All (UpTo o x) xs × Up xs
+  Up (x ∷ xs) = AllByRecursion (UpTo o x) xs × Up xs
 
-  placed_up : (x y : A) (ys : List A) (t : Bool) → is_lt (o.rank y x) ≡ t → All (UpTo o y) ys → Up ys → Up (placed o.rank x ys) → Up (cond t (y ∷ placed o.rank x ys) (x ∷ (y ∷ ys)))
+  placed_up : (x y : A) (ys : List A) (t : Bool) → is_lt (o.rank y x) ≡ t → AllByRecursion (UpTo o y) ys → Up ys → Up (placed o.rank x ys) → Up (cond t (y ∷ placed o.rank x ys) (x ∷ (y ∷ ys)))
   placed_up x y ys true e h u v = (all_placed o.rank (UpTo o y) x ys (upto_less o y x (less-from (o.rank y x) e)) h, v)
   placed_up x y ys false e h u v =
       let l = upto_from o x y e in
@@ -87,7 +87,7 @@ module _ {A : Type 0} (o : Order A) where
   up_sorted (x ∷ xs) = up_placed x (sorted o.rank xs) (up_sorted xs)
 
   -- none of what is above x is the same as x
-  pub none_beyond : (x : A) (ys : List A) → All (λ w. o.rank x w ≡ Less) ys → times (λ y. o.same y x) ys ≡ 0
+  pub none_beyond : (x : A) (ys : List A) → AllByRecursion (λ w. o.rank x w ≡ Less) ys → times (λ y. o.same y x) ys ≡ 0
   none_beyond x [] h = refl
   none_beyond x (y ∷ ys) h =
       let a : ◌≡◌ {A = ℕ} (cond (o.same y x) 1 0) 0 = ap (λ b. cond b 1 0) (apart o x y h.0) in
@@ -99,7 +99,7 @@ module _ {A : Type 0} (o : Order A) where
       let a : ◌≡◌ {A = ℕ} (cond (o.same x x) 1 0) 1 = ap (λ b. cond b 1 0) (same_self o x) in
       omega arith
 
-  beyond_all : (x y : A) (ys : List A) → o.rank x y ≡ Less → All (UpTo o y) ys → All (λ w. o.rank x w ≡ Less) (y ∷ ys)
+  beyond_all : (x y : A) (ys : List A) → o.rank x y ≡ Less → AllByRecursion (UpTo o y) ys → AllByRecursion (λ w. o.rank x w ≡ Less) (y ∷ ys)
   beyond_all x y ys l h = (l, All-weaker (UpTo o y) (λ w. o.rank x w ≡ Less) (λ w k. less_upto o x y w l k) ys h)
 
   -- lists that ascend and hold each element as often are equal

@@ -1,7 +1,7 @@
 -- Squeezing an ascending list: it rises strictly, has the same members, and is the one list that does.
 use Rattle.std.proofs.Common.{◌≡◌, ℕ, zero, suc, ◌<◌, Bool, true, false, cond, ◌||◌, List, [], ◌∷◌, length, get_or, Less, sym, refl, ap, ◌∙◌, subst, true≢false, arith}
 use Rattle.std.specs.Ordering.{is_lt}
-use Rattle.std.specs.List.{AllByRecursion as All}
+use Rattle.std.specs.List.{AllByRecursion}
 use Rattle.std.proofs.ByRecursion.{All-weaker, All-get_or}
 use Rattle.std.proofs.lemmas.Bool.{and_parts, and_from}
 use Rattle.sets.specs.Members.{some_of}
@@ -31,7 +31,7 @@ module _ {A : Type 0} (o : Order A) where
   past-rises x y ys true e u h k = h
   past-rises x y ys false e u h k = and_from (is_lt (o.rank x y)) (rising o.rank (y ∷ past o.same y ys)) (ap is_lt (less_left (o.rank x y) u (o.agrees x y ∙ e))) k
 
-  rises-past : (x : A) (ys : List A) → All (UpTo o x) ys → Up o ys → Rising o.rank (x ∷ past o.same x ys)
+  rises-past : (x : A) (ys : List A) → AllByRecursion (UpTo o x) ys → Up o ys → Rising o.rank (x ∷ past o.same x ys)
   rises-past x [] h u = refl
   rises-past x (y ∷ ys) h u = past-rises x y ys (o.same x y) refl h.0 (rises-past x ys h.1 u.1) (rises-past y ys u.0 u.1)
 
@@ -48,9 +48,9 @@ module _ {A : Type 0} (o : Order A) where
   -- each element is below all later ones
   abbrev pub Climbs : List A → Type 0
   Climbs [] = Unit {0}
-  Climbs (x ∷ xs) = All (λ w. o.rank x w ≡ Less) xs × Climbs xs
+  Climbs (x ∷ xs) = AllByRecursion (λ w. o.rank x w ≡ Less) xs × Climbs xs
 
-  ahead : (x : A) (ys : List A) → leads o.rank x ys ≡ true → Climbs ys → All (λ w. o.rank x w ≡ Less) ys
+  ahead : (x : A) (ys : List A) → leads o.rank x ys ≡ true → Climbs ys → AllByRecursion (λ w. o.rank x w ≡ Less) ys
   ahead x [] h k = tt
   ahead x (y ∷ ys) h k =
       let l = less-from (o.rank x y) h in
@@ -73,21 +73,21 @@ module _ {A : Type 0} (o : Order A) where
   abbrev has : List A → A → Bool
   has xs x = some_of (λ y. o.same y x) xs
 
-  lacks : (x : A) (ys : List A) → All (λ w. o.rank x w ≡ Less) ys → has ys x ≡ false
+  lacks : (x : A) (ys : List A) → AllByRecursion (λ w. o.rank x w ≡ Less) ys → has ys x ≡ false
   lacks x [] h = refl
   lacks x (y ∷ ys) h = (λ i. apart o x y h.0 i || lacks x ys h.1 i)
 
   here : (x : A) (xs : List A) → has (x ∷ xs) x ≡ true
   here x xs = ap (λ b. b || has xs x) (same_self o x)
 
-  clash : (x : A) (xs ys : List A) → has (x ∷ xs) x ≡ has ys x → All (λ w. o.rank x w ≡ Less) ys → ⊥
+  clash : (x : A) (xs ys : List A) → has (x ∷ xs) x ≡ has ys x → AllByRecursion (λ w. o.rank x w ≡ Less) ys → ⊥
   clash x xs ys h l = true≢false (sym (here x xs) ∙ h ∙ lacks x ys l)
 
-  beyond : (x y : A) (ys : List A) → o.rank x y ≡ Less → All (λ w. o.rank y w ≡ Less) ys → All (λ w. o.rank x w ≡ Less) (y ∷ ys)
+  beyond : (x y : A) (ys : List A) → o.rank x y ≡ Less → AllByRecursion (λ w. o.rank y w ≡ Less) ys → AllByRecursion (λ w. o.rank x w ≡ Less) (y ∷ ys)
   beyond x y ys l h = (l, All-weaker (λ w. o.rank y w ≡ Less) (λ w. o.rank x w ≡ Less) (λ w m. o.rises x y w l m) ys h)
 
   -- what two lists hold after a common first element
-  tails : (x z : A) (xs ys : List A) (t : Bool) → o.same x z ≡ t → All (λ w. o.rank x w ≡ Less) xs → All (λ w. o.rank x w ≡ Less) ys → (t || has xs z) ≡ (t || has ys z) → has xs z ≡ has ys z
+  tails : (x z : A) (xs ys : List A) (t : Bool) → o.same x z ≡ t → AllByRecursion (λ w. o.rank x w ≡ Less) xs → AllByRecursion (λ w. o.rank x w ≡ Less) ys → (t || has xs z) ≡ (t || has ys z) → has xs z ≡ has ys z
   tails x z xs ys true e a b h =
       let p = o.whole x z e in
       subst (λ w. has xs w ≡ has ys w) p (lacks x xs a ∙ sym (lacks x ys b))
@@ -101,7 +101,7 @@ module _ {A : Type 0} (o : Order A) where
       by_rank o x y (◌≡◌ {A = List A} (x ∷ xs) (y ∷ ys))
       (λ l. absurd (clash x xs (y ∷ ys) (h x) (beyond x y ys l b.0)))
       (λ e.
-      let first : All (λ w. o.rank x w ≡ Less) ys = subst (λ v. All (λ w. o.rank v w ≡ Less) ys) (sym e) b.0 in
+      let first : AllByRecursion (λ w. o.rank x w ≡ Less) ys = subst (λ v. AllByRecursion (λ w. o.rank v w ≡ Less) ys) (sym e) b.0 in
       let even : (z : A) → (o.same x z || has xs z) ≡ (o.same x z || has ys z) = λ z. h z ∙ ap (λ v. o.same v z || has ys z) (sym e) in
       let t : xs ≡ ys = climb_unique xs ys a.1 b.1 (λ z. tails x z xs ys (o.same x z) refl a.0 first (even z)) in
       cc)
