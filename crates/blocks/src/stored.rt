@@ -1,4 +1,4 @@
-ghost use Rattle.std.specs.Prelude.{◌≡◌, ℕ, ◌+◌, ◌-◌, ◌^◌, ◌<◌, ◌≤◌, true, map as each, length, slice_index};
+ghost use Rattle.std.specs.Prelude.{◌≡◌, ℕ, ◌+◌, ◌-◌, ◌^◌, ◌<◌, ◌≤◌, true, map as each, length, slice_index, ⊤};
 ghost use Rattle.lists.specs.Held.{held};
 ghost use Rattle.model.specs.Edits.{same_accept, same_map};
 ghost use Rattle.blocks.specs.Apart.{apart};
@@ -32,6 +32,10 @@ pub struct Blocks {
 }
 
 impl Clone for Blocks {
+    ghost is_clone = { λ x y. y ≡ x };
+
+    ghost is_infallible = { λ _. ⊤ };
+
     fn clone(&self) -> Result<Blocks, AllocError> {
         Ok(*self)
     }

@@ -1,7 +1,7 @@
 #![tactic(auto)]
 
 // Lists of bounded length, kept in an array: no heap.
-ghost use Rattle.std.specs.Prelude.{◌≡◌, ◌≤◌, length};
+ghost use Rattle.std.specs.Prelude.{◌≡◌, ◌≤◌, length, ⊤};
 
 use std::alloc::AllocError;
 
@@ -15,6 +15,10 @@ pub struct ArrayVec<T, const N: usize> {
 }
 
 impl<T: Copy, const N: usize> Clone for ArrayVec<T, N> {
+    ghost is_clone = { λ x y. y ≡ x };
+
+    ghost is_infallible = { λ _. ⊤ };
+
     fn clone(&self) -> Result<ArrayVec<T, N>, AllocError> {
         Ok(*self)
     }

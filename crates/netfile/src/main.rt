@@ -10,6 +10,7 @@ use nets::net::Net;
 use space::socket::Socket;
 use std::env;
 use std::io::{Read, Write};
+use std::process::ExitCode;
 
 // No net's text is longer: an entry, 64 accept blocks, 128 map blocks and 32 overlays.
 const LONGEST: usize = 5 + 37 * 64 + 55 * 128 + 7 * 32;
@@ -17,10 +18,10 @@ const LONGEST: usize = 5 + 37 * 64 + 55 * 128 + 7 * 32;
 const USAGE: &str =
     "usage: netfile [text | rows [NODE] | compare NODE NODE] < FRAMES, where a NODE is 0 to 31";
 
-fn main(rt: HostRuntime) -> anyhow::Result<()> {
+fn main(rt: HostRuntime) -> anyhow::Result<ExitCode> {
     match run(&rt) {
-        Ok(true) => Ok(()),
-        Ok(false) => Err(anyhow!("the text is refused")),
+        Ok(true) => Ok(ExitCode::SUCCESS),
+        Ok(false) => Ok(ExitCode::FAILURE),
         Err(error) => Err(error),
     }
 }

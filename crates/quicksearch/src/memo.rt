@@ -1,4 +1,4 @@
-ghost use Rattle.std.specs.Prelude.{◌≤◌};
+ghost use Rattle.std.specs.Prelude.{◌≤◌, ◌≡◌, ⊤};
 
 use std::alloc::AllocError;
 
@@ -43,6 +43,10 @@ pub(crate) struct Memo {
 }
 
 impl Clone for Memo {
+    ghost is_clone = { λ x y. y ≡ x };
+
+    ghost is_infallible = { λ _. ⊤ };
+
     fn clone(&self) -> Result<Memo, AllocError> {
         Ok(*self)
     }

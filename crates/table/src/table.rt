@@ -1,4 +1,4 @@
-ghost use Rattle.std.specs.Prelude.{◌≡◌, true};
+ghost use Rattle.std.specs.Prelude.{◌≡◌, true, ⊤};
 ghost use Rattle.model.specs.Walks.{bounded as bound};
 ghost use Rattle.blocks.specs.Shape.{kept};
 
@@ -12,6 +12,10 @@ pub struct Table {
 }
 
 impl Clone for Table {
+    ghost is_clone = { λ x y. y ≡ x };
+
+    ghost is_infallible = { λ _. ⊤ };
+
     fn clone(&self) -> Result<Table, AllocError> {
         Ok(*self)
     }

@@ -1,3 +1,5 @@
+ghost use Rattle.std.specs.Prelude.{◌≡◌, ⊤};
+
 use lists::ArrayVec;
 use model::names::Name;
 use std::alloc::AllocError;
@@ -16,6 +18,10 @@ pub struct Notes {
 }
 
 impl Clone for Notes {
+    ghost is_clone = { λ x y. y ≡ x };
+
+    ghost is_infallible = { λ _. ⊤ };
+
     fn clone(&self) -> Result<Notes, AllocError> {
         Ok(*self)
     }
