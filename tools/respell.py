@@ -62,6 +62,33 @@ def definitions():
 FUNCTIONS = {'first-overfull', 'fewer-walk-less', 'names-line', 'reading-part'}
 
 
+LIBRARY = re.compile(r'use (?:Rattle\.(?:std|core)\.|mathlib\.|native\.|lib\.|borrow\.|Prim\.)\S*\{([^}]*)\}')
+
+
+def of_library(text):
+    """What a file takes from the library under its own name, which it keeps."""
+    groups = LIBRARY.findall(text)
+    return {n.strip() for g in groups for n in g.split(',') if ' as ' not in n}
+
+
+def aliases():
+    """Names with a dash that an import gives to something."""
+    return {a for p in antt_files() + rt_files() for a in re.findall(r' as ([a-z]+(?:-[a-z]+)+)', p.read_text())}
+
+
+def plain_definitions():
+    """The definitions of specs/ whose names are one word: what a lemma's name may join by a dash."""
+    head = re.compile(r'^ *(?:(?:pub|abbrev|unfoldable) )+([A-Za-z_][^\s:(){}-]*) :')
+    found = set()
+    for path in antt_files():
+        if '/specs/' in str(path):
+            for line in path.read_text().split('\n'):
+                m = head.match(line)
+                if m and ('abbrev' in line or 'unfoldable' in line):
+                    found.add(m.group(1))
+    return found
+
+
 def respelled(name, definition, words):
     if '-' not in name:
         return name
@@ -77,7 +104,9 @@ def respelled(name, definition, words):
 
 def main():
     defs, lemmas = definitions()
-    words = STD | {n for n in defs if '-' not in n}
+    words = STD | plain_definitions()
+    defs = defs | aliases()
+    lemmas = lemmas - defs
     renames = {}
     for n in sorted(defs | lemmas):
         new = respelled(n, n in defs, words)
@@ -100,15 +129,18 @@ def main():
         return
     pattern = re.compile(r'(?P<dot>\.?)(?P<tok>' + TOKEN + ')')
     fields = field_names()
+    library = set()
 
     def swap(m):
         tok = m.group('tok')
-        if tok in renames and (not m.group('dot') or tok in fields):
+        if tok in renames and tok not in library and (not m.group('dot') or tok in fields):
             return m.group('dot') + renames[tok]
         return m.group(0)
 
     for path in antt_files() + rt_files():
         old = path.read_text()
+        library.clear()
+        library.update(of_library(old))
         lines = []
         for line in old.split('\n'):
             mark = '--' if path.suffix == '.antt' else '//'

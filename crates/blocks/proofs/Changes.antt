@@ -16,8 +16,8 @@ use Rattle.blocks.proofs.Asking.{decided_late}
 eqb_swap : (a b : ℕ) → eqb a b ≡ eqb b a
 eqb_swap a b = elim (cases_eq a b) [ inl e ↦ eq-eqb a b e ∙ sym (eq-eqb b a (sym e)) | inr d ↦ ne_eqb a b d ∙ sym (ne_eqb b a (λ e. d (sym e))) ]
 
-pub swap-accept : (b c : AcceptBlock) → same_accept b c ≡ same_accept c b
-swap-accept b c = cc (eqb_swap b.node c.node, eqb_swap b.lo c.lo, eqb_swap b.hi c.hi)
+pub swap_accept : (b c : AcceptBlock) → same_accept b c ≡ same_accept c b
+swap_accept b c = cc (eqb_swap b.node c.node, eqb_swap b.lo c.lo, eqb_swap b.hi c.hi)
 
 pub swap-map : (b c : MapBlock) → same_map b c ≡ same_map c b
 swap-map b c =

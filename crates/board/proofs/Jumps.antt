@@ -5,7 +5,7 @@ use Rattle.std.proofs.lemmas.Bool.{cases_lt, ltb-true, ltb-false}
 use Rattle.model.specs.Names.{top}
 use Rattle.model.specs.Nets.{Kept, Spot, node}
 use Rattle.model.specs.Walks.{trace, finite, overfull, least, first_overfull_lem}
-use Rattle.model.proofs.Bounds.{is-least}
+use Rattle.model.proofs.Bounds.{is_least}
 use Rattle.walks.specs.Spans.{spans}
 use Rattle.walks.proofs.Rising.{trace_up}
 use Rattle.board.specs.Jumping.{jumping, jumping_nodes}
@@ -36,11 +36,11 @@ module _ (k : Kept) (n : ℕ) where
           → least (overfull k n) top ≡ found
       go true f none g ih e =
           let q : some a ≡ found = cc in
-          is-least (overfull k n) top (some a) (record { under = ltb-true a top f; passes = ap (λ o. not (finite o)) g; earlier = low }) ∙ q
+          is_least (overfull k n) top (some a) (record { under = ltb-true a top f; passes = ap (λ o. not (finite o)) g; earlier = low }) ∙ q
       go true f (some met) g ih e = ih (a + (spans k (top - 1 - a) met + 1)) found (stretch a met g low) e
       go false f t g ih e =
           let q : none ≡ found = cc in
-          is-least (overfull k n) top none (λ b h. low b (omega (arith, ltb-false a top f))) ∙ q
+          is_least (overfull k n) top none (λ b h. low b (omega (arith, ltb-false a top f))) ∙ q
 
   pub exact : (jumps : ℕ) (found : Option ℕ) → jumping k n jumps 0 ≡ some found → least (overfull k n) top ≡ found
   exact jumps found e = exact_from jumps 0 found (λ b h. absurd (omega arith)) e

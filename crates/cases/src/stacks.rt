@@ -139,7 +139,7 @@ fn a_stack_of_all_layers_decodes(rt: HostRuntime) -> Result<(), Fail> {
 }
 
 // A net over a renaming over a window over a net over the bottom, which has component 5 at 100 to 1ff.
-fn decodes_through_all_layers<B: Space + Drop>(rt: &impl Abort, bottom: B) -> Result<(), Fail> {
+fn decodes_through_all_layers<B: Space + Drop>(rt: &HostRuntime, bottom: B) -> Result<(), Fail> {
     let mut lower = Net::new(1, bottom);
     assert_eq!(rt; lower.over(0, 32), Ok(()));
     let Ok(window) = Window::new(0x10, 0x2f, 0x1f0, lower) else {

@@ -6,7 +6,7 @@ use Rattle.model.specs.Names.{top, raise, holds, SameSet}
 use Rattle.model.specs.Looks.{filled, Reach}
 use Rattle.flatten.specs.Runs.{every}
 use Rattle.flatten.specs.Comparing.{PassBelow, Differs}
-use Rattle.flatten.proofs.Sets.{has, iff_eq, set_is, set_trans, set-raise, every_true, every-from}
+use Rattle.flatten.proofs.Sets.{has, iff_eq, set_is, set_trans, set-raise, every_true, every_from}
 use Rattle.flatten.proofs.Stretches.{look_front, held_fits}
 
 -- what a granted look leaves
@@ -33,10 +33,10 @@ module _ (l r : ℕ → List Name) (s t at count reach many far : ℕ) (xs ys : 
   differs inside other = record { inside = inside; below = below; fits_first = p.fit; fits_second = q.fit; other = other }
 
   pub differs_first : at < top → every (holds (r at)) (take (count - 0) xs) ≡ false → Differs l r s t at
-  differs_first inside u = differs inside (λ h. both_ways (every (holds (r at)) (take (count - 0) xs)) u (every-from (r at) (take (count - 0) xs) (λ n m. sym (h n) ∙ ap (has n) (sym p.front) ∙ m)))
+  differs_first inside u = differs inside (λ h. both_ways (every (holds (r at)) (take (count - 0) xs)) u (every_from (r at) (take (count - 0) xs) (λ n m. sym (h n) ∙ ap (has n) (sym p.front) ∙ m)))
 
   pub differs_second : at < top → false ≡ every (holds (l at)) (take (many - 0) ys) → Differs l r s t at
-  differs_second inside u = differs inside (λ h. both_ways (every (holds (l at)) (take (many - 0) ys)) (sym u) (every-from (l at) (take (many - 0) ys) (λ n m. h n ∙ ap (has n) (sym q.front) ∙ m)))
+  differs_second inside u = differs inside (λ h. both_ways (every (holds (l at)) (take (many - 0) ys)) (sym u) (every_from (l at) (take (many - 0) ys) (λ n m. h n ∙ ap (has n) (sym q.front) ∙ m)))
 
   -- a whole turn: each list is within the other, and both stay, raised, up to `last`
   pub passes_on : (last : ℕ) → every (holds (r at)) (take (count - 0) xs) ≡ true → true ≡ every (holds (l at)) (take (many - 0) ys)

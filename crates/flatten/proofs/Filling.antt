@@ -9,7 +9,7 @@ use Rattle.model.specs.Names.{top}
 use Rattle.flatten.specs.declared.stretch.Stretch.{Stretch}
 use Rattle.flatten.specs.Runs.{Run, Flattened, once, seam, needed, fits}
 use Rattle.flatten.specs.Steps.{Held, Ended, row, rows, closed}
-use Rattle.flatten.proofs.Seams.{run_outside, needed-zero, needed-run, needed-room, fits-from}
+use Rattle.flatten.proofs.Seams.{run_outside, needed-zero, needed_run, needed-room, fits_from}
 use Rattle.flatten.proofs.Stretches.{front_list}
 use Rattle.flatten.proofs.Tables.{Table, no_rows, table_snoc, ends_rows, rows_made, closed-rows, flattened}
 
@@ -52,7 +52,7 @@ module _ (list : ℕ → List Name) (room : ℕ) (scratch : List Name) (s : Stre
   one_more hi r =
       let e : d ≡ length (once (list s.address)) = is ∙ ap (λ t. length (once t)) (front_list list scratch s m.held) in
       let c = m.counted in
-      let n = needed-run list s.address hi r m.first in
+      let n = needed_run list s.address hi r m.first in
       omega (arith, e, c, n)
 
   pub measured_more : (after : List Name) (t : Stretch) → d < 18446744073709551616 → length after ≡ room
@@ -73,7 +73,7 @@ module _ (list : ℕ → List Name) (room : ℕ) (scratch : List Name) (s : Stre
   pub measured_all : Ended list s.address 18446744073709551615 room → (total + d ≡ needed list top) × (fits list room top ≡ true)
   measured_all k = (
     one_more 18446744073709551615 k.run,
-    fits-from list room top (λ a l. elim (cases_lt a s.address) [ inl q ↦ m.fit a q | inr q ↦ k.fit a q (omega arith) ]),
+    fits_from list room top (λ a l. elim (cases_lt a s.address) [ inl q ↦ m.fit a q | inr q ↦ k.fit a q (omega arith) ]),
   )
 
 -- what the writing pass keeps
@@ -188,7 +188,7 @@ module _ (list : ℕ → List Name) (room : ℕ) (before : List Record) (scratch
     count_more =
         let e : m ≡ length (once (list s.address)) = is ∙ ap (λ t. length (once t)) (front_list list scratch s f.held) in
         let c = f.counted in
-        let q = needed-run list s.address hi r f.first in
+        let q = needed_run list s.address hi r f.first in
         omega (arith, e, c, q)
 
     kept_more : drop (n + m) (put_mid n ((n + m) - n) (put_mid n (length T - n) T part1) part2) ≡ drop (n + m) before
@@ -196,10 +196,10 @@ module _ (list : ℕ → List Name) (room : ℕ) (before : List Record) (scratch
         drop_2 s.address hi n m (once (take (s.count - 0) scratch)) T part1 part2 within is wrote shut
         ∙ sym (drop-drop m n T) ∙ ap (drop m) f.kept ∙ drop-drop m n before
 
-    pub filled-last : hi ≡ 18446744073709551615 → (n + m ≡ needed list top)
+    pub filled_last : hi ≡ 18446744073709551615 → (n + m ≡ needed list top)
         × Flattened list (take (n + m) (put_mid n ((n + m) - n) (put_mid n (length T - n) T part1) part2))
         × (drop (n + m) (put_mid n ((n + m) - n) (put_mid n (length T - n) T part1) part2) ≡ drop (n + m) before)
-    filled-last e =
+    filled_last e =
         let last : hi + 1 ≡ top = omega arith in (
           count_more ∙ ap (needed list) last,
           flattened list (take (n + m) (put_mid n ((n + m) - n) (put_mid n (length T - n) T part1) part2))

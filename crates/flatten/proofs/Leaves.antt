@@ -58,9 +58,9 @@ map_next f xs cur i d h inv =
     ∙ sym (append_assoc (map f (take i xs)) (f (get_or xs i d) ∷ []) (drop (i + 1) xs))
     ∙ ap (λ t. t ++ drop (i + 1) xs) (sym (ap (map f) (take_more xs i d h) ∙ map_push f (take i xs) (get_or xs i d)))
 
-pub map-done : {X : Type 0} (f : X → X) (xs cur : List X) (i : ℕ) → length xs ≤ i
+pub map_done : {X : Type 0} (f : X → X) (xs cur : List X) (i : ℕ) → length xs ≤ i
     → cur ≡ map f (take i xs) ++ drop i xs → cur ≡ map f xs
-map-done f xs cur i h inv =
+map_done f xs cur i h inv =
     inv ∙ ap (λ t. map f (take i xs) ++ t) (drop_all i xs h) ∙ append-nil _ ∙ ap (map f) (take_all i xs h)
 
 -- what is left past i, as the checker reads `&names[i + 1..]`
@@ -91,9 +91,9 @@ module _ (lo : ℕ) (xs : List Name) (i found : ℕ) (part all : List Record) (h
       ∙ ap (λ t. take found part ++ rows lo lo t) (sym (once_new xs i h (rest_has _ xs i false e)))
       ∙ inv
 
-pub rows-done : (lo : ℕ) (xs : List Name) (i found : ℕ) (part was all : List Record) → length xs ≤ i
+pub rows_done : (lo : ℕ) (xs : List Name) (i found : ℕ) (part was all : List Record) → length xs ≤ i
     → take found part ++ rows lo lo (once (drop i xs)) ≡ all → drop found part ≡ drop found was → part ≡ all ++ drop found was
-rows-done lo xs i found part was all h inv kept =
+rows_done lo xs i found part was all h inv kept =
     let q : take found part ≡ all = sym (append-nil (take found part)) ∙ ap (λ t. take found part ++ rows lo lo t) (sym (at_drop_all once xs i h)) ∙ inv in
     sym (take-append-drop found part) ∙ ap (λ t. t ++ drop found part) q ∙ ap (λ t. all ++ t) kept
 
@@ -109,5 +109,5 @@ module _ (ys xs : List Name) (i : ℕ) (inv : every (holds ys) xs ≡ every (hol
   pub every_lacks : i < length xs → false ≡ has (get_or xs i nothing) ys → every (holds ys) xs ≡ false
   every_lacks h o = inv ∙ at_drop_more (every (holds ys)) xs i nothing h ∙ and_left _ _ (sym o)
 
-  pub every-done : length xs ≤ i → every (holds ys) xs ≡ true
-  every-done h = inv ∙ at_drop_all (every (holds ys)) xs i h
+  pub every_done : length xs ≤ i → every (holds ys) xs ≡ true
+  every_done h = inv ∙ at_drop_all (every (holds ys)) xs i h

@@ -4,13 +4,13 @@ use Rattle.std.proofs.lemmas.Bool.{both_ways, and_from, and_left, and_right, and
 use Rattle.model.specs.declared.names.Name.{Name}
 use Rattle.model.specs.Names.{top, raise, holds, SameSet}
 use Rattle.flatten.specs.Runs.{Run, once, every, seam, needed, fits}
-use Rattle.flatten.proofs.Sets.{has, iff_eq, set_sym, set_trans, set_is, set-raise, raise-raise, every_true, every-from}
+use Rattle.flatten.proofs.Sets.{has, iff_eq, set_sym, set_trans, set_is, set-raise, raise-raise, every_true, every_from}
 
 abbrev both : List Name → List Name → Bool
 both xs ys = every (holds ys) xs && every (holds xs) ys
 
 both_from : (xs ys : List Name) → SameSet xs ys → both xs ys ≡ true
-both_from xs ys h = and_from _ _ (every-from ys xs (λ n m. sym (h n) ∙ m)) (every-from xs ys (λ n m. h n ∙ m))
+both_from xs ys h = and_from _ _ (every_from ys xs (λ n m. sym (h n) ∙ m)) (every_from xs ys (λ n m. h n ∙ m))
 
 both_true : (xs ys : List Name) → both xs ys ≡ true → SameSet xs ys
 both_true xs ys h n =
@@ -78,8 +78,8 @@ module _ (list : ℕ → List Name) where
       ∙ needed_along lo hi r e k (omega arith)
 
   -- one run takes the names at its first address
-  pub needed-run : (lo hi : ℕ) → Run list lo hi → seam list lo ≡ true → needed list (hi + 1) ≡ needed list lo + length (once (list lo))
-  needed-run lo hi r e =
+  pub needed_run : (lo hi : ℕ) → Run list lo hi → seam list lo ≡ true → needed list (hi + 1) ≡ needed list lo + length (once (list lo))
+  needed_run lo hi r e =
       let q = r.rises in
       let k : ℕ = hi - lo in
       let z : lo + k ≡ hi = omega arith in
@@ -102,10 +102,10 @@ module _ (list : ℕ → List Name) where
       let k = needed-seam a e in
       omega (arith, h, k)
 
-  pub fits-from : (s n : ℕ) → ((a : ℕ) → a < n → length (list a) ≤ s) → fits list s n ≡ true
+  pub fits_from : (s n : ℕ) → ((a : ℕ) → a < n → length (list a) ≤ s) → fits list s n ≡ true
   unfolding fits
-  fits-from s zero h = refl
-  fits-from s (suc n) h = and_from _ _ (fits-from s n (λ a l. h a (omega arith))) (le-leb (length (list n)) s (h n (omega arith)))
+  fits_from s zero h = refl
+  fits_from s (suc n) h = and_from _ _ (fits_from s n (λ a l. h a (omega arith))) (le-leb (length (list n)) s (h n (omega arith)))
 
   pub fits_not : (s n a : ℕ) → a < n → s < length (list a) → fits list s n ≡ false
   unfolding fits
@@ -115,5 +115,5 @@ module _ (list : ℕ → List Name) where
     | inr k ↦ (let e : a ≡ n = omega arith in and_right _ _ (lt-leb (length (list n)) s (subst (λ x. s < length (list x)) e m)))
   ]
 
-  pub fits-at : (s n a : ℕ) → fits list s n ≡ true → a < n → length (list a) ≤ s
-  fits-at s n a f l = elim (cases_lt s (length (list a))) [ inl m ↦ absurd (both_ways (fits list s n) (fits_not s n a l m) f) | inr m ↦ m ]
+  pub fits_at : (s n a : ℕ) → fits list s n ≡ true → a < n → length (list a) ≤ s
+  fits_at s n a f l = elim (cases_lt s (length (list a))) [ inl m ↦ absurd (both_ways (fits list s n) (fits_not s n a l m) f) | inr m ↦ m ]

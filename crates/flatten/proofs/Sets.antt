@@ -26,8 +26,8 @@ iff_eq true b f g = sym (f refl)
 iff_eq false true f g = g refl
 iff_eq false false f g = refl
 
-pub same-is : (m n : Name) → same m n ≡ true → m ≡ n
-same-is m n h =
+pub same_is : (m n : Name) → same m n ≡ true → m ≡ n
+same_is m n h =
     let p = and_parts _ _ h in
     let c : n.component ≡ m.component = eqb-true _ _ p.0 in
     let a : n.address ≡ m.address = eqb-true _ _ p.1 in
@@ -95,7 +95,7 @@ ups-true d ys (x ∷ xs) h n m =
     let p = and_parts _ _ h in
     let q = and_parts (has (raised d x) ys) (ups d ys xs) p.1 in
     elim (or_cases (same n (raised d x)) (has n (raise d xs)) m) [
-      | inl e ↦ ap (λ t. has t ys) (same-is n (raised d x) e) ∙ q.0
+      | inl e ↦ ap (λ t. has t ys) (same_is n (raised d x) e) ∙ q.0
       | inr e ↦ ups-true d ys xs q.1 n e
     ]
 
@@ -105,23 +105,23 @@ downs-true d xs (y ∷ ys) h n m =
     let p = and_parts _ _ h in
     let q = and_parts (has (lowered d y) xs) (downs d xs ys) p.1 in
     elim (or_cases (same n y) (has n ys) m) [
-      | inl e ↦ ap (λ t. has t (raise d xs)) (same-is n y e) ∙ has-raise d y xs ∙ and_from _ _ p.0 q.0
+      | inl e ↦ ap (λ t. has t (raise d xs)) (same_is n y e) ∙ has-raise d y xs ∙ and_from _ _ p.0 q.0
       | inr e ↦ downs-true d xs ys q.1 n e
     ]
 
-pub ups-from : (d : ℕ) (ys xs : List Name) → Low ys → ((n : Name) → has n (raise d xs) ≡ true → has n ys ≡ true) → ups d ys xs ≡ true
-ups-from d ys [] b h = refl
-ups-from d ys (x ∷ xs) b h =
+pub ups_from : (d : ℕ) (ys xs : List Name) → Low ys → ((n : Name) → has n (raise d xs) ≡ true → has n ys ≡ true) → ups d ys xs ≡ true
+ups_from d ys [] b h = refl
+ups_from d ys (x ∷ xs) b h =
     let here : has (raised d x) ys ≡ true = h (raised d x) (or_left _ (has (raised d x) (raise d xs)) (same_refl (raised d x))) in
     and_from _ _ (lt-ltb (x.address + d) top (b (raised d x) here))
-    (and_from _ _ here (ups-from d ys xs b (λ n m. h n (or_right (same n (raised d x)) _ m))))
+    (and_from _ _ here (ups_from d ys xs b (λ n m. h n (or_right (same n (raised d x)) _ m))))
 
-pub downs-from : (d : ℕ) (xs ys : List Name) → ((n : Name) → has n ys ≡ true → has n (raise d xs) ≡ true) → downs d xs ys ≡ true
-downs-from d xs [] h = refl
-downs-from d xs (y ∷ ys) h =
+pub downs_from : (d : ℕ) (xs ys : List Name) → ((n : Name) → has n ys ≡ true → has n (raise d xs) ≡ true) → downs d xs ys ≡ true
+downs_from d xs [] h = refl
+downs_from d xs (y ∷ ys) h =
     let here : has y (raise d xs) ≡ true = h y (or_left _ (has y ys) (same_refl y)) in
     let p = and_parts (leb d y.address) (has (lowered d y) xs) (sym (has-raise d y xs) ∙ here) in
-    and_from _ _ p.0 (and_from _ _ p.1 (downs-from d xs ys (λ n m. h n (or_right (same n y) _ m))))
+    and_from _ _ p.0 (and_from _ _ p.1 (downs_from d xs ys (λ n m. h n (or_right (same n y) _ m))))
 
 -- both tests say that the set goes on
 pub goes_on : (d : ℕ) (xs ys : List Name) → ups d ys xs ≡ true → downs d xs ys ≡ true → SameSet ys (raise d xs)
@@ -129,10 +129,10 @@ goes_on d xs ys u v n = iff_eq _ _ (downs-true d xs ys v n) (ups-true d ys xs u 
 
 -- and one that fails says that it does not
 pub stops_up : (d : ℕ) (xs ys : List Name) → Low ys → ups d ys xs ≡ false → SameSet ys (raise d xs) → ⊥
-stops_up d xs ys b f h = both_ways (ups d ys xs) f (ups-from d ys xs b (λ n m. h n ∙ m))
+stops_up d xs ys b f h = both_ways (ups d ys xs) f (ups_from d ys xs b (λ n m. h n ∙ m))
 
 pub stops_down : (d : ℕ) (xs ys : List Name) → downs d xs ys ≡ false → SameSet ys (raise d xs) → ⊥
-stops_down d xs ys f h = both_ways (downs d xs ys) f (downs-from d xs ys (λ n m. sym (h n) ∙ m))
+stops_down d xs ys f h = both_ways (downs d xs ys) f (downs_from d xs ys (λ n m. sym (h n) ∙ m))
 
 -- a list with each name once has the same names, and is itself so
 pub once-has : (n : Name) (xs : List Name) → has n (once xs) ≡ has n xs
@@ -140,7 +140,7 @@ once-has n [] = refl
 once-has n (x ∷ xs) = elim (cases_Bool (has x xs)) [
   | inl old ↦ ap (has n) (cond-true (has x xs) (once xs) (x ∷ once xs) old) ∙ once-has n xs
       ∙ elim (cases_Bool (same n x)) [
-        | inl s ↦ ap (λ t. has t xs) (same-is n x s) ∙ old ∙ sym (or_left (same n x) (has n xs) s)
+        | inl s ↦ ap (λ t. has t xs) (same_is n x s) ∙ old ∙ sym (or_left (same n x) (has n xs) s)
         | inr s ↦ sym (ap (λ b. b || has n xs) s)
       ]
   | inr new ↦ ap (has n) (cond-false (has x xs) (once xs) (x ∷ once xs) new) ∙ ap (λ b. same n x || b) (once-has n xs)
@@ -160,9 +160,9 @@ pub every_true : (ys xs : List Name) → every (holds ys) xs ≡ true → (n : N
 every_true ys [] h n m = absurd (true≢false (sym m))
 every_true ys (x ∷ xs) h n m =
     let p = and_parts (holds ys x) (every (holds ys) xs) h in
-    elim (or_cases (same n x) (has n xs) m) [ inl e ↦ ap (λ t. has t ys) (same-is n x e) ∙ p.0 | inr e ↦ every_true ys xs p.1 n e ]
+    elim (or_cases (same n x) (has n xs) m) [ inl e ↦ ap (λ t. has t ys) (same_is n x e) ∙ p.0 | inr e ↦ every_true ys xs p.1 n e ]
 
-pub every-from : (ys xs : List Name) → ((n : Name) → has n xs ≡ true → has n ys ≡ true) → every (holds ys) xs ≡ true
-every-from ys [] h = refl
-every-from ys (x ∷ xs) h =
-    and_from _ _ (h x (or_left _ (has x xs) (same_refl x))) (every-from ys xs (λ n m. h n (or_right (same n x) _ m)))
+pub every_from : (ys xs : List Name) → ((n : Name) → has n xs ≡ true → has n ys ≡ true) → every (holds ys) xs ≡ true
+every_from ys [] h = refl
+every_from ys (x ∷ xs) h =
+    and_from _ _ (h x (or_left _ (has x xs) (same_refl x))) (every_from ys xs (λ n m. h n (or_right (same n x) _ m)))

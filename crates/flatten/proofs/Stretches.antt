@@ -15,10 +15,10 @@ look_front xs before after count c l e =
     let m : length xs ≤ length before = omega arith in
     ap (take count) (e ∙ cond-true _ _ _ (le-leb (length xs) (length before) m)) ∙ take_at xs (drop (length xs) before) count (sym c)
 
-pub held-from : (list : ℕ → List Name) (address count reach : ℕ) (before after : List Name) → length after ≡ length before
+pub held_from : (list : ℕ → List Name) (address count reach : ℕ) (before after : List Name) → length after ≡ length before
     → (count ≡ length (list address)) × (count ≤ length before) × Reach list address reach → after ≡ filled (list address) before
     → Held list after (record { address = address; count = count; reach = reach })
-held-from list address count reach before after len g e =
+held_from list address count reach before after len g e =
     let c = g.0 in
     let l = g.1 in
     record { counts = c; room = omega arith; front = look_front (list address) before after count c l e; reaches = g.2 }
@@ -55,9 +55,9 @@ going_start list scratch s h = record {
   fit = stretch_fits list scratch s h;
 }
 
-alike-run : (list : ℕ → List Name) (lo hi : ℕ) → ((d : ℕ) → lo + d ≤ hi → SameSet (list (lo + d)) (raise d (list lo)))
+alike_run : (list : ℕ → List Name) (lo hi : ℕ) → ((d : ℕ) → lo + d ≤ hi → SameSet (list (lo + d)) (raise d (list lo)))
     → (a : ℕ) → lo ≤ a → a ≤ hi → SameSet (raise (a - lo) (list lo)) (list a)
-alike-run list lo hi alike a l m =
+alike_run list lo hi alike a l m =
     let d : ℕ = a - lo in
     let e : lo + d ≡ a = omega arith in
     set_sym (list a) (raise d (list lo)) (subst (λ x. SameSet (list x) (raise d (list lo))) e (alike d (omega arith)))
@@ -70,7 +70,7 @@ going_top list lo room scratch s g e =
       run = record {
         rises = omega arith;
         below = omega arith;
-        same = alike-run list lo 18446744073709551615 (λ d l. g.alike d (omega arith));
+        same = alike_run list lo 18446744073709551615 (λ d l. g.alike d (omega arith));
         longest = inl (omega arith);
       };
       fit = λ a l m. g.fit a l (omega arith);
@@ -134,7 +134,7 @@ module _ (list : ℕ → List Name) (lo room : ℕ) (scratch : List Name) (s : S
         run = record {
           rises = omega arith;
           below = omega arith;
-          same = alike-run list lo (at - 1) (λ d l. g.alike d (omega arith));
+          same = alike_run list lo (at - 1) (λ d l. g.alike d (omega arith));
           longest = inr (λ h. stops (set_trans (list at) (raise (at - lo) (list lo)) (raise (at - s.address) (list s.address))
               (set_sym (raise (at - lo) (list lo)) (list at) (subst (λ x. SameSet (raise (x - lo) (list lo)) (list x)) one h)) back));
         };
@@ -147,8 +147,8 @@ front_list list scratch s h = let e : s.count - 0 ≡ s.count = omega arith in a
 
 module _ (list : ℕ → List Name) (lo room : ℕ) (scratch : List Name) (s : Stretch) (g : Going list lo room scratch s)
     (after : List Name) (t : Stretch) (here : t.address ≡ s.reach + 1) (h : Held list after t) where
-  low-at : Low (list (s.reach + 1))
-  low-at = let far = h.reaches.least in let e : t.address + 0 ≡ s.reach + 1 = omega arith in subst (λ a. Low (list a)) e (h.reaches.none_past 0 (omega arith))
+  low_at : Low (list (s.reach + 1))
+  low_at = let far = h.reaches.least in let e : t.address + 0 ≡ s.reach + 1 = omega arith in subst (λ a. Low (list a)) e (h.reaches.none_past 0 (omega arith))
 
   at_next : (d : ℕ) (b : Bool) → b ≡ downs d (list s.address) (take (t.count - 0) after) → downs d (list s.address) (list (s.reach + 1)) ≡ b
   at_next d b e = sym (e ∙ ap (downs d (list s.address)) (front_list list after t h ∙ ap list here))
@@ -168,7 +168,7 @@ module _ (list : ℕ → List Name) (lo room : ℕ) (scratch : List Name) (s : S
 
   pub ended_up : false ≡ ups (s.reach + 1 - s.address) (list (s.reach + 1)) (take (s.count - 0) scratch)
       → (lo < t.address) × Ended list lo (t.address - 1) room × Held list after t
-  ended_up e = ended (stops_up (s.reach + 1 - s.address) (list s.address) (list (s.reach + 1)) low-at (at_held _ false e))
+  ended_up e = ended (stops_up (s.reach + 1 - s.address) (list s.address) (list (s.reach + 1)) low_at (at_held _ false e))
 
   pub ended_down : false ≡ downs (s.reach + 1 - s.address) (list s.address) (take (t.count - 0) after)
       → (lo < t.address) × Ended list lo (t.address - 1) room × Held list after t

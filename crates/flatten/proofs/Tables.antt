@@ -19,41 +19,41 @@ Ends lo hi (r ∷ rs) = (r.lo ≡ lo) × (r.hi ≡ hi) × Ends lo hi rs
 -- the addresses from a up to, and without, `to`, cut into runs, and their records in order
 pub data Table (list : ℕ → List Name) (to : ℕ) : ℕ → List Record → Type 0 where
   no_rows : {a : ℕ} {rs : List Record} → a ≡ to → rs ≡ [] → Table list to a rs
-  run-rows : {a : ℕ} {rs : List Record} (hi : ℕ) (rows rest : List Record) → Run list a hi → Ends a hi rows → Rows list a hi rows → Table list to (hi + 1) rest → rs ≡ rows ++ rest → Table list to a rs
+  run_rows : {a : ℕ} {rs : List Record} (hi : ℕ) (rows rest : List Record) → Run list a hi → Ends a hi rows → Rows list a hi rows → Table list to (hi + 1) rest → rs ≡ rows ++ rest → Table list to a rs
 
 pub table_snoc : (list : ℕ → List Name) (b hi : ℕ) (news : List Record) → Run list b hi → Ends b hi news → Rows list b hi news → (a : ℕ) (rs : List Record) → Table list b a rs → Table list (hi + 1) a (rs ++ news)
 table_snoc list b hi news r w o a rs (no_rows e z) =
-    run-rows hi news [] (subst (λ t. Run list t hi) (sym e) r) (subst (λ t. Ends t hi news) (sym e) w) (subst (λ t. Rows list t hi news) (sym e) o) (no_rows refl refl)
+    run_rows hi news [] (subst (λ t. Run list t hi) (sym e) r) (subst (λ t. Ends t hi news) (sym e) w) (subst (λ t. Rows list t hi news) (sym e) o) (no_rows refl refl)
     (ap (λ t. t ++ news) z ∙ sym (append-nil news))
-table_snoc list b hi news r w o a rs (run-rows h rows rest s q p t e) =
-    run-rows h rows (rest ++ news) s q p (table_snoc list b hi news r w o (h + 1) rest t) (ap (λ t. t ++ news) e ∙ append_assoc rows rest news)
+table_snoc list b hi news r w o a rs (run_rows h rows rest s q p t e) =
+    run_rows h rows (rest ++ news) s q p (table_snoc list b hi news r w o (h + 1) rest t) (ap (λ t. t ++ news) e ∙ append_assoc rows rest news)
 
 table_cut : (list : ℕ → List Name) (a : ℕ) (rs : List Record) → Table list top a rs → Cut list a rs
 table_cut list a rs (no_rows e z) = subst (λ t. Cut list t rs) (sym e) (subst (λ t. Cut list top t) (sym z) end)
-table_cut list a rs (run-rows hi rows rest r w o t e) = subst (λ x. Cut list a x) (sym e) (run r o (table_cut list (hi + 1) rest t))
+table_cut list a rs (run_rows hi rows rest r w o t e) = subst (λ x. Cut list a x) (sym e) (run r o (table_cut list (hi + 1) rest t))
 
 pub ends_rows : (lo hi : ℕ) (xs : List Name) → Ends lo hi (rows lo hi xs)
 ends_rows lo hi [] = tt
 ends_rows lo hi (x ∷ xs) = (refl, refl, ends_rows lo hi xs)
 
-los-rows : (lo hi : ℕ) (xs : List Name) → map (λ (r : Record). r.lo) (rows lo hi xs) ≡ map (λ (_ : Record). lo) (rows lo hi xs)
-los-rows lo hi [] = refl
-los-rows lo hi (x ∷ xs) = ap (λ t. lo ∷ t) (los-rows lo hi xs)
+los_rows : (lo hi : ℕ) (xs : List Name) → map (λ (r : Record). r.lo) (rows lo hi xs) ≡ map (λ (_ : Record). lo) (rows lo hi xs)
+los_rows lo hi [] = refl
+los_rows lo hi (x ∷ xs) = ap (λ t. lo ∷ t) (los_rows lo hi xs)
 
-his-rows : (lo hi : ℕ) (xs : List Name) → map (λ (r : Record). r.hi) (rows lo hi xs) ≡ map (λ (_ : Record). hi) (rows lo hi xs)
-his-rows lo hi [] = refl
-his-rows lo hi (x ∷ xs) = ap (λ t. hi ∷ t) (his-rows lo hi xs)
+his_rows : (lo hi : ℕ) (xs : List Name) → map (λ (r : Record). r.hi) (rows lo hi xs) ≡ map (λ (_ : Record). hi) (rows lo hi xs)
+his_rows lo hi [] = refl
+his_rows lo hi (x ∷ xs) = ap (λ t. hi ∷ t) (his_rows lo hi xs)
 
-names-rows : (lo hi : ℕ) (xs : List Name) → map name_of (rows lo hi xs) ≡ xs
-names-rows lo hi [] = refl
-names-rows lo hi (x ∷ xs) = ap (λ t. x ∷ t) (names-rows lo hi xs)
+names_rows : (lo hi : ℕ) (xs : List Name) → map name_of (rows lo hi xs) ≡ xs
+names_rows lo hi [] = refl
+names_rows lo hi (x ∷ xs) = ap (λ t. x ∷ t) (names_rows lo hi xs)
 
 pub rows_made : (list : ℕ → List Name) (lo hi : ℕ) (xs : List Name) → xs ≡ list lo → Rows list lo hi (rows lo hi (once xs))
 rows_made list lo hi xs e = record {
-  los = los-rows lo hi (once xs);
-  his = his-rows lo hi (once xs);
-  names = λ n. ap (has n) (names-rows lo hi (once xs)) ∙ once-has n xs ∙ ap (has n) e;
-  single = ap once (names-rows lo hi (once xs)) ∙ once-once xs ∙ sym (names-rows lo hi (once xs));
+  los = los_rows lo hi (once xs);
+  his = his_rows lo hi (once xs);
+  names = λ n. ap (has n) (names_rows lo hi (once xs)) ∙ once-has n xs ∙ ap (has n) e;
+  single = ap once (names_rows lo hi (once xs)) ∙ once-once xs ∙ sym (names_rows lo hi (once xs));
 }
 
 pub closed-rows : (lo hi : ℕ) (xs : List Name) → map (closed hi) (rows lo lo xs) ≡ rows lo hi xs
@@ -100,7 +100,7 @@ gives_before a lo hi (r ∷ rs) e l =
 
 gives_early : (list : ℕ → List Name) (to b : ℕ) (rs : List Record) → Table list to b rs → (a : ℕ) → a < b → tabled rs a ≡ []
 gives_early list to b rs (no_rows e z) a l = ap (λ t. tabled t a) z
-gives_early list to b rs (run-rows hi rows rest r w o t e) a l =
+gives_early list to b rs (run_rows hi rows rest r w o t e) a l =
     let q = r.rises in
     ap (λ t. tabled t a) e ∙ gives_append a rows rest
     ∙ ap (λ x. x ++ tabled rest a) (gives_before a b hi rows w l)
@@ -108,7 +108,7 @@ gives_early list to b rs (run-rows hi rows rest r w o t e) a l =
 
 table_tells : (list : ℕ → List Name) (to b : ℕ) (rs : List Record) → Table list to b rs → (a : ℕ) → b ≤ a → a < to → SameSet (tabled rs a) (list a)
 table_tells list to b rs (no_rows e z) a l m = absurd (omega arith)
-table_tells list to b rs (run-rows hi rows rest r w o t e) a l m =
+table_tells list to b rs (run_rows hi rows rest r w o t e) a l m =
     elim (cases_lt hi a) [
       | inl p ↦ set_trans (tabled rs a) (tabled rest a) (list a)
           (set_is _ _ (ap (λ t. tabled t a) e ∙ gives_append a rows rest ∙ ap (λ x. x ++ tabled rest a) (gives_after a b hi rows w p)))

@@ -63,14 +63,14 @@ module _ (bs : List ℕ) (small : (i : ℕ) → get_or bs i 0 < 2 ^ 8) where
       let e : laid k bs ≡ f = cc in
       subst Fitting e (laid-fits (eqb k 0x41) (eqb k 0x4d) (eqb k 0x4f) (eqb k 0x45) (eqb k 0x61) (eqb k 0x6d))
 
-line-granted : (ks : Kinds) (cs : List ℕ) (f : Frame) → line_read ks cs ≡ Ok f → (all_digits cs ≡ true) × ((eqb (length cs % 2) 0 && ltb 0 (length cs)) ≡ true) × (frame_read ks (bytes_of cs) ≡ Ok f)
-line-granted ks cs f q =
+line_granted : (ks : Kinds) (cs : List ℕ) (f : Frame) → line_read ks cs ≡ Ok f → (all_digits cs ≡ true) × ((eqb (length cs % 2) 0 && ltb 0 (length cs)) ≡ true) × (frame_read ks (bytes_of cs) ≡ Ok f)
+line_granted ks cs f q =
     let p = granted (all_digits cs) _ NotADigit f q in
     let r = granted (eqb (length cs % 2) 0 && ltb 0 (length cs)) (frame_read ks (bytes_of cs)) OddDigits f p.1 in
     (p.0, r.0, r.1)
 
-pub line-fits : LineFits
-line-fits ks cs f q = frame_fits (bytes_of cs) (byte_small cs) ks f (line-granted ks cs f q).2
+pub line_fits : LineFits
+line_fits ks cs f q = frame_fits (bytes_of cs) (byte_small cs) ks f (line_granted ks cs f q).2
 
 -- a program asks no more than a net
 or_left : (a b : Bool) → a ≡ true → (a || b) ≡ true
@@ -84,7 +84,7 @@ net_frame k bs f q =
 
 pub nets_read_less : NetsReadLess
 nets_read_less cs f q =
-    let g = line-granted Net cs f q in
+    let g = line_granted Net cs f q in
     ap (λ t. cond t (cond (eqb (length cs % 2) 0 && ltb 0 (length cs)) (frame_read Program (bytes_of cs)) (Err OddDigits)) (Err NotADigit)) g.0
     ∙ ap (λ t. cond t (frame_read Program (bytes_of cs)) (Err OddDigits)) g.1
     ∙ net_frame (get_or (bytes_of cs) 0 0) (bytes_of cs) f g.2

@@ -18,8 +18,8 @@ size_small : (k : ℕ) → size k ≤ 27
 size_small k = grind arith
 
 -- so of a longer line only the kind matters
-cut-long : (ks : Kinds) (k : ℕ) (xs bs : List ℕ) → 27 < length bs → cut true (of_kind ks k xs) ≡ of_kind ks k bs
-cut-long ks k xs bs h = kind (known ks k)
+cut_long : (ks : Kinds) (k : ℕ) (xs bs : List ℕ) → 27 < length bs → cut true (of_kind ks k xs) ≡ of_kind ks k bs
+cut_long ks k xs bs h = kind (known ks k)
   where
     wrong : cond (eqb (length bs) (size k)) (Ok (laid k bs)) (Err LengthWrong) ≡ Err LengthWrong
     wrong = cond-false (eqb (length bs) (size k)) _ _ (ne_eqb (length bs) (size k) (λ e. let s = size_small k in omega arith))
@@ -43,7 +43,7 @@ holding_read ks (b ∷ bs) = cond-false (eqb (length (take 27 (b ∷ bs))) 0) _ 
     ∙ sym (cond-true (ltb 0 (length (b ∷ bs))) _ _ (lt-ltb 0 (length (b ∷ bs)) (omega arith)))
   where
     go : (27 < length (b ∷ bs)) ⊎ (length (b ∷ bs) ≤ 27) → cut (ltb 27 (length (b ∷ bs))) (frame_read ks (take 27 (b ∷ bs))) ≡ frame_read ks (b ∷ bs)
-    go (inl h) = ap (λ t. cut t (frame_read ks (take 27 (b ∷ bs)))) (lt-ltb 27 (length (b ∷ bs)) h) ∙ cut-long ks b (take 27 (b ∷ bs)) (b ∷ bs) h
+    go (inl h) = ap (λ t. cut t (frame_read ks (take 27 (b ∷ bs)))) (lt-ltb 27 (length (b ∷ bs)) h) ∙ cut_long ks b (take 27 (b ∷ bs)) (b ∷ bs) h
     go (inr h) = ap (λ t. cut t (frame_read ks (take 27 (b ∷ bs)))) (le-ltb 27 (length (b ∷ bs)) h) ∙ ap (frame_read ks) (take_all 27 (b ∷ bs) h)
 
 -- one byte more
@@ -117,8 +117,8 @@ pub read_by_characters : ReadByCharacters
 read_by_characters ks cs = fed ks cs [] ∙ ap (λ z. cond (all_digits cs) (cond (eqb (length cs % 2) 0 && ltb 0 z) (frame_read ks (bytes_of cs)) (Err OddDigits)) (Err NotADigit)) (zero-add (length cs))
 
 -- a reader that is made, fed and finished
-pub line-told : (ks : Kinds) (cs : List ℕ) (s t : Seen) (r : Result Frame Fault) → s ≡ fresh → t ≡ fold after s cs → r ≡ finished ks t → r ≡ line_read ks cs
-line-told ks cs s t r p q e = e ∙ ap (finished ks) (q ∙ ap (λ z. fold after z cs) p) ∙ read_by_characters ks cs
+pub line_told : (ks : Kinds) (cs : List ℕ) (s t : Seen) (r : Result Frame Fault) → s ≡ fresh → t ≡ fold after s cs → r ≡ finished ks t → r ≡ line_read ks cs
+line_told ks cs s t r p q e = e ∙ ap (finished ks) (q ∙ ap (λ z. fold after z cs) p) ∙ read_by_characters ks cs
 
 -- a line that is fed byte by byte
 pub fed_more : (cs : List ℕ) (i : ℕ) (s t goal : Seen) → i < length cs → t ≡ after s (get_or cs i 0) → fold after s (drop i cs) ≡ goal → fold after t (drop (i + 1) cs) ≡ goal

@@ -34,16 +34,16 @@ map-made node xs lo hi base n p q r =
     ∙ ap (λ z. Ok (record { node = node; lo = word xs 0; hi = word xs 8; destination = get_or xs 16 0; base = z })) (r ∙ word_cut xs 17)
     ∙ sym (cond-true (eqb (length xs) 25) _ _ (eq-eqb (length xs) 25 n))
 
-same-eqb : (a b c d : ℕ) → (a ≡ b → c ≡ d) → (c ≡ d → a ≡ b) → eqb a b ≡ eqb c d
-same-eqb a b c d f g = go (cases_eq a b)
+same_eqb : (a b c d : ℕ) → (a ≡ b → c ≡ d) → (c ≡ d → a ≡ b) → eqb a b ≡ eqb c d
+same_eqb a b c d f g = go (cases_eq a b)
   where
     go : (a ≡ b) ⊎ (a ≡ b → ⊥) → eqb a b ≡ eqb c d
     go (inl e) = eq-eqb a b e ∙ sym (eq-eqb c d (f e))
     go (inr n) = ne_eqb a b n ∙ sym (ne_eqb c d (λ e. n (g e)))
 
 -- the length behind the kind and the node, and the whole length
-sized-more : {X : Type 0} (k node m : ℕ) (xs : List ℕ) (x : X) → sized m xs x ≡ sized (suc (suc m)) (k ∷ node ∷ xs) x
-sized-more k node m xs x = ap (λ b. cond b (Ok x) (Err LengthWrong)) (same-eqb (length xs) m (suc (suc (length xs))) (suc (suc m)) (λ e. omega arith) (λ e. omega arith))
+sized_more : {X : Type 0} (k node m : ℕ) (xs : List ℕ) (x : X) → sized m xs x ≡ sized (suc (suc m)) (k ∷ node ∷ xs) x
+sized_more k node m xs x = ap (λ b. cond b (Ok x) (Err LengthWrong)) (same_eqb (length xs) m (suc (suc (length xs))) (suc (suc m)) (λ e. omega arith) (λ e. omega arith))
 
 framed-sized : {B : Type 0} (f : B → Frame) (m : ℕ) (xs : List ℕ) (b : B) → framed f (sized m xs b) ≡ sized m xs (f b)
 framed-sized f m xs b = go (eqb (length xs) m)
@@ -70,27 +70,27 @@ module _ (node : ℕ) (xs : List ℕ) where
   by_kind ks k h l = a (cases_eq k 65)
     where
       e : (k ≡ 65 → ⊥) → (k ≡ 77 → ⊥) → (k ≡ 79 → ⊥) → (k ≡ 97 → ⊥) → (k ≡ 109 → ⊥) → (k ≡ 69) ⊎ (k ≡ 69 → ⊥) → node_frame_read k node xs ≡ whole k
-      e p q r s t (inl z) = same k 69 z (sized-more 69 node 0 xs (Enter node))
+      e p q r s t (inl z) = same k 69 z (sized_more 69 node 0 xs (Enter node))
       e p q r s t (inr z) = absurd (false≢true (sym (unknown ks k p q r z s t l) ∙ h))
 
       o : (k ≡ 65 → ⊥) → (k ≡ 77 → ⊥) → (k ≡ 97 → ⊥) → (k ≡ 109 → ⊥) → (k ≡ 79) ⊎ (k ≡ 79 → ⊥) → node_frame_read k node xs ≡ whole k
-      o p q s t (inl z) = same k 79 z (sized-more 79 node 1 xs (Over node (get_or xs 0 0)))
+      o p q s t (inl z) = same k 79 z (sized_more 79 node 1 xs (Over node (get_or xs 0 0)))
       o p q s t (inr z) = e p q z s t (cases_eq k 69)
 
       dm : (k ≡ 65 → ⊥) → (k ≡ 77 → ⊥) → (k ≡ 97 → ⊥) → (k ≡ 109) ⊎ (k ≡ 109 → ⊥) → node_frame_read k node xs ≡ whole k
-      dm p q s (inl z) = same k 109 z (framed-sized DropMap 25 xs _ ∙ sized-more 109 node 25 xs _)
+      dm p q s (inl z) = same k 109 z (framed-sized DropMap 25 xs _ ∙ sized_more 109 node 25 xs _)
       dm p q s (inr z) = o p q s z (cases_eq k 79)
 
       da : (k ≡ 65 → ⊥) → (k ≡ 77 → ⊥) → (k ≡ 97) ⊎ (k ≡ 97 → ⊥) → node_frame_read k node xs ≡ whole k
-      da p q (inl z) = same k 97 z (framed-sized DropAccept 16 xs _ ∙ sized-more 97 node 16 xs _)
+      da p q (inl z) = same k 97 z (framed-sized DropAccept 16 xs _ ∙ sized_more 97 node 16 xs _)
       da p q (inr z) = dm p q z (cases_eq k 109)
 
       m : (k ≡ 65 → ⊥) → (k ≡ 77) ⊎ (k ≡ 77 → ⊥) → node_frame_read k node xs ≡ whole k
-      m p (inl z) = same k 77 z (framed-sized Map 25 xs _ ∙ sized-more 77 node 25 xs _)
+      m p (inl z) = same k 77 z (framed-sized Map 25 xs _ ∙ sized_more 77 node 25 xs _)
       m p (inr z) = da p z (cases_eq k 97)
 
       a : (k ≡ 65) ⊎ (k ≡ 65 → ⊥) → node_frame_read k node xs ≡ whole k
-      a (inl z) = same k 65 z (framed-sized Accept 16 xs _ ∙ sized-more 65 node 16 xs _)
+      a (inl z) = same k 65 z (framed-sized Accept 16 xs _ ∙ sized_more 65 node 16 xs _)
       a (inr z) = m z (cases_eq k 77)
 
 pub node_frame : (ks : Kinds) (bs : List ℕ) (r : Result Frame Fault) → 2 ≤ length bs → true ≡ known ks (get_or bs 0 0) → (get_or bs 0 0 ≡ 76 → ⊥)

@@ -9,8 +9,8 @@ use Rattle.model.specs.Names.{replaced, renamed, same_name, holds}
 abbrev pub leads : List (ℕ × ℕ) → List Name → Name → ℕ × ℕ → Bool
 leads ps xs n p = eqb (replaced ps p.0) n.component && holds xs (record { component = p.0; address = n.address })
 
-same-is : (x n : Name) → same_name x n ≡ true → x ≡ n
-same-is x n e =
+same_is : (x n : Name) → same_name x n ≡ true → x ≡ n
+same_is x n e =
     let p = and_parts (eqb x.component n.component) (eqb x.address n.address) e in
     ap (λ c. record { component = c; address = x.address }) (eqb-true x.component n.component p.0)
     ∙ ap (λ a. record { component = n.component; address = a }) (eqb-true x.address n.address p.1)
@@ -19,18 +19,18 @@ is_same : (x n : Name) → x ≡ n → same_name x n ≡ true
 is_same x n e = and_from (eqb x.component n.component) (eqb x.address n.address) (eq-eqb x.component n.component (ap (λ y. y.component) e)) (eq-eqb x.address n.address (ap (λ y. y.address) e))
 
 -- a name that a renaming gives comes from one below
-pub comes-from : (ps : List (ℕ × ℕ)) (xs : List Name) (n : Name) → holds (map (renamed ps) xs) n ≡ true
+pub comes_from : (ps : List (ℕ × ℕ)) (xs : List Name) (n : Name) → holds (map (renamed ps) xs) n ≡ true
     → (k : ℕ) × (replaced ps k ≡ n.component) × (holds xs (record { component = k; address = n.address }) ≡ true)
-comes-from ps [] n e = absurd (both_ways false refl e)
-comes-from ps (x ∷ xs) n e =
+comes_from ps [] n e = absurd (both_ways false refl e)
+comes_from ps (x ∷ xs) n e =
     elim (or_cases (same_name (renamed ps x) n) (holds (map (renamed ps) xs) n) e) [
-      | inl h ↦ (let r : renamed ps x ≡ n = same-is (renamed ps x) n h in (
+      | inl h ↦ (let r : renamed ps x ≡ n = same_is (renamed ps x) n h in (
         x.component,
         ap (λ y. y.component) r,
         or_left (same_name x (record { component = x.component; address = n.address })) (holds xs (record { component = x.component; address = n.address }))
             (is_same x (record { component = x.component; address = n.address }) (ap (λ a. record { component = x.component; address = a }) (ap (λ y. y.address) r))),
       ))
-      | inr h ↦ (let r = comes-from ps xs n h in
+      | inr h ↦ (let r = comes_from ps xs n h in
           (r.0, r.1, or_right (same_name x (record { component = r.0; address = n.address })) (holds xs (record { component = r.0; address = n.address })) r.2))
     ]
 
@@ -40,7 +40,7 @@ goes_to ps [] n k e h = absurd (both_ways false refl h)
 goes_to ps (x ∷ xs) n k e h =
     elim (or_cases (same_name x (record { component = k; address = n.address })) (holds xs (record { component = k; address = n.address })) h) [
       | inl s ↦ or_left (same_name (renamed ps x) n) (holds (map (renamed ps) xs) n)
-          (is_same (renamed ps x) n (ap (renamed ps) (same-is x (record { component = k; address = n.address }) s) ∙ ap (λ c. record { component = c; address = n.address }) e))
+          (is_same (renamed ps x) n (ap (renamed ps) (same_is x (record { component = k; address = n.address }) s) ∙ ap (λ c. record { component = c; address = n.address }) e))
       | inr s ↦ or_right (same_name (renamed ps x) n) (holds (map (renamed ps) xs) n) (goes_to ps xs n k e s)
     ]
 
@@ -70,11 +70,11 @@ module _ (ps : List (ℕ × ℕ)) (xs : List Name) (n : Name) where
       let h = and_parts (eqb (replaced ps p.0.0) n.component) (holds xs (record { component = p.0.0; address = n.address })) p.1 in
       goes_to ps xs n p.0.0 (eqb-true (replaced ps p.0.0) n.component h.0) h.1
 
-  pub not-met : (replaced ps n.component ≡ n.component → holds xs n ≡ true → ⊥) → some_of (leads ps xs n) ps ≡ false → holds (map (renamed ps) xs) n ≡ false
-  not-met own none =
+  pub not_met : (replaced ps n.component ≡ n.component → holds xs n ≡ true → ⊥) → some_of (leads ps xs n) ps ≡ false → holds (map (renamed ps) xs) n ≡ false
+  not_met own none =
       elim (cases_Bool (holds (map (renamed ps) xs) n)) [
         | inr e ↦ e
-        | inl e ↦ (let r = comes-from ps xs n e in
+        | inl e ↦ (let r = comes_from ps xs n e in
             elim (stays ps (leads ps xs n) r.0 (λ t. and_from (eqb (replaced ps r.0) n.component) (holds xs (record { component = r.0; address = n.address })) (eq-eqb (replaced ps r.0) n.component r.1) r.2)) [
               | inl s ↦ (let k : r.0 ≡ n.component = sym s ∙ r.1 in
                   absurd (own (ap (replaced ps) (sym k) ∙ r.1) (ap (λ c. holds xs (record { component = c; address = n.address })) (sym k) ∙ r.2)))

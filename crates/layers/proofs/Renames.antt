@@ -11,13 +11,13 @@ use Rattle.model.specs.Model.{Model, renaming, lists}
 use Rattle.model.specs.Looks.{Reach, filled, zeroed}
 use Rattle.layers.specs.declared.pairs.Pair.{Pair}
 use Rattle.layers.specs.Pairs.{two}
-use Rattle.layers.proofs.Meeting.{comes-from}
+use Rattle.layers.proofs.Meeting.{comes_from}
 
 filled-fits : (xs slots : List Name) → length xs ≤ length slots → filled xs slots ≡ xs ++ drop (length xs) slots
 filled-fits xs slots h = cond-true (leb (length xs) (length slots)) (xs ++ drop (length xs) slots) (zeroed slots) (le-leb (length xs) (length slots) h)
 
-filled-short : (xs slots : List Name) → length slots < length xs → filled xs slots ≡ zeroed slots
-filled-short xs slots h = cond-false (leb (length xs) (length slots)) (xs ++ drop (length xs) slots) (zeroed slots) (lt-leb (length xs) (length slots) h)
+filled_short : (xs slots : List Name) → length slots < length xs → filled xs slots ≡ zeroed slots
+filled_short xs slots h = cond-false (leb (length xs) (length slots)) (xs ++ drop (length xs) slots) (zeroed slots) (lt-leb (length xs) (length slots) h)
 
 module _ (ps : List (ℕ × ℕ)) where
   pub filled-renamed : (xs slots last final : List Name) (count : ℕ) → count ≡ length xs → count ≤ length slots → last ≡ filled xs slots
@@ -31,9 +31,9 @@ module _ (ps : List (ℕ × ℕ)) where
       ∙ ap (λ k. map (renamed ps) xs ++ drop k slots) (sym len)
       ∙ sym (filled-fits (map (renamed ps) xs) slots (omega arith))
 
-  pub filled-refused : (xs slots last : List Name) → length slots < length xs → last ≡ filled xs slots → last ≡ filled (map (renamed ps) xs) slots
-  filled-refused xs slots last h e =
-      e ∙ filled-short xs slots h ∙ sym (filled-short (map (renamed ps) xs) slots (omega (arith, length-map xs (renamed ps))))
+  pub filled_refused : (xs slots last : List Name) → length slots < length xs → last ≡ filled xs slots → last ≡ filled (map (renamed ps) xs) slots
+  filled_refused xs slots last h e =
+      e ∙ filled_short xs slots h ∙ sym (filled_short (map (renamed ps) xs) slots (omega (arith, length-map xs (renamed ps))))
 
   raised-renamed : (d : ℕ) (xs : List Name) → map (renamed ps) (raise d xs) ≡ raise d (map (renamed ps) xs)
   raised-renamed d [] = refl
@@ -44,7 +44,7 @@ module _ (ps : List (ℕ × ℕ)) where
     least = r.least;
     most = r.most;
     raises = λ d h. ap (map (renamed ps)) (r.raises d h) ∙ raised-renamed d (lists m a);
-    none_past = λ d h x t. let f = comes-from ps (lists m (a + d)) x t in r.none_past d h (record { component = f.0; address = x.address }) f.2;
+    none_past = λ d h x t. let f = comes_from ps (lists m (a + d)) x t in r.none_past d h (record { component = f.0; address = x.address }) f.2;
   }
 
 -- one pair more, of the pairs kept so far

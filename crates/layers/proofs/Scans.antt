@@ -22,8 +22,8 @@ module _ (q : ℕ × ℕ → Bool) (xs : List Pair) (i : ℕ) (inv : some_of q (
       sym (or_left (q (two (get_or xs i blank))) (some_of q (map two (drop (i + 1) xs))) t)
       ∙ sym (at_drop_more (λ zs. some_of q (map two zs)) xs i blank h) ∙ inv
 
-  pub some-skip : i < length xs → q (two (get_or xs i blank)) ≡ false → some_of q (map two (drop (i + 1) xs)) ≡ some_of q (map two xs)
-  some-skip h t =
+  pub some_skip : i < length xs → q (two (get_or xs i blank)) ≡ false → some_of q (map two (drop (i + 1) xs)) ≡ some_of q (map two xs)
+  some_skip h t =
       sym (or-false (q (two (get_or xs i blank))) (some_of q (map two (drop (i + 1) xs))) t)
       ∙ sym (at_drop_more (λ zs. some_of q (map two zs)) xs i blank h) ∙ inv
 
@@ -37,8 +37,8 @@ module _ (k : ℕ) (xs : List Pair) (i : ℕ) (inv : replaced (map two (drop i x
       sym (cond-true (eqb (get_or xs i blank).from k) (get_or xs i blank).to (replaced (map two (drop (i + 1) xs)) k) (eq-eqb (get_or xs i blank).from k t))
       ∙ sym (at_drop_more (λ zs. replaced (map two zs) k) xs i blank h) ∙ inv
 
-  pub replaced-skip : i < length xs → ((get_or xs i blank).from ≡ k → ⊥) → replaced (map two (drop (i + 1) xs)) k ≡ replaced (map two xs) k
-  replaced-skip h t =
+  pub replaced_skip : i < length xs → ((get_or xs i blank).from ≡ k → ⊥) → replaced (map two (drop (i + 1) xs)) k ≡ replaced (map two xs) k
+  replaced_skip h t =
       sym (cond-false (eqb (get_or xs i blank).from k) (get_or xs i blank).to (replaced (map two (drop (i + 1) xs)) k) (ne_eqb (get_or xs i blank).from k t))
       ∙ sym (at_drop_more (λ zs. replaced (map two zs) k) xs i blank h) ∙ inv
 
@@ -46,9 +46,9 @@ module _ (k : ℕ) (xs : List Pair) (i : ℕ) (inv : replaced (map two (drop i x
   replaced-none h = sym (at_drop_all (λ zs. replaced (map two zs) k) xs i h) ∙ inv
 
 -- one slot more is renamed
-pub renamed-more : (ps : List (ℕ × ℕ)) (xs ys : List Name) (i r : ℕ) (d : Name) → i < length xs → i < length ys
+pub renamed_more : (ps : List (ℕ × ℕ)) (xs ys : List Name) (i r : ℕ) (d : Name) → i < length xs → i < length ys
     → ys ≡ map (renamed ps) (take i xs) ++ drop i xs → r ≡ replaced ps (get_or ys i d).component
     → set ys i (record { component = r; address = (get_or ys i d).address }) ≡ map (renamed ps) (take (i + 1) xs) ++ drop (i + 1) xs
-renamed-more ps xs ys i r d h h' inv e =
+renamed_more ps xs ys i r d h h' inv e =
     ap (λ c. set ys i (record { component = c; address = (get_or ys i d).address })) e
     ∙ map_over_more (renamed ps) xs ys i (get_or ys i d) h inv (get_or_default ys i d (get_or ys i d) h')

@@ -6,15 +6,15 @@ use Rattle.loading.specs.Texts.{in_front, lines_of, line_length}
 use Rattle.loading.specs.Laws.{unbroken, NoLine, EndedLine, LastLine}
 
 -- a text is its first line and the lines after it
-lines-first : (cs : List ℕ) → 0 < length cs → lines_of cs ≡ take (line_length cs) cs ∷ lines_of (drop (line_length cs + 1) cs)
+lines_first : (cs : List ℕ) → 0 < length cs → lines_of cs ≡ take (line_length cs) cs ∷ lines_of (drop (line_length cs + 1) cs)
 unfolding lines_of
-lines-first [] h = absurd (omega arith)
-lines-first (c ∷ []) h = go (eqb c 10)
+lines_first [] h = absurd (omega arith)
+lines_first (c ∷ []) h = go (eqb c 10)
   where
     go : (b : Bool) → cond b ([] ∷ []) ((c ∷ []) ∷ []) ≡ take (cond b 0 1) (c ∷ []) ∷ lines_of (drop (cond b 0 1 + 1) (c ∷ []))
     go true = refl
     go false = refl
-lines-first (c ∷ d ∷ ds) h = go (eqb c 10) (lines-first (d ∷ ds) (omega arith))
+lines_first (c ∷ d ∷ ds) h = go (eqb c 10) (lines_first (d ∷ ds) (omega arith))
   where
     go : (b : Bool) → lines_of (d ∷ ds) ≡ take (line_length (d ∷ ds)) (d ∷ ds) ∷ lines_of (drop (line_length (d ∷ ds) + 1) (d ∷ ds))
         → cond b ([] ∷ lines_of (d ∷ ds)) (in_front c (lines_of (d ∷ ds)))
@@ -32,7 +32,7 @@ pub split_line : (text : List ℕ) (s e : ℕ) → s < length text → e ≡ s +
 split_line text s e h is =
     let n : line_length (drop s text) ≡ e - s = omega arith in
     let m : s + (line_length (drop s text) + 1) ≡ e + 1 = omega arith in
-    lines-first (drop s text) (let l = length-drop s text in omega arith)
+    lines_first (drop s text) (let l = length-drop s text in omega arith)
     ∙ ap (λ z. take z (drop s text) ∷ lines_of (drop (line_length (drop s text) + 1) (drop s text))) n
     ∙ ap (λ z. take (e - s) (drop s text) ∷ lines_of z) (drop-drop (line_length (drop s text) + 1) s text ∙ ap (λ z. drop z text) m)
 
@@ -46,22 +46,22 @@ line_feed cs k goal h e inv =
     let d : line_length (drop k cs) ≡ 0 = ap line_length (drop_more cs k 0 h) ∙ ap (λ z. cond (eqb z 10) 0 (1 + line_length (drop (k + 1) cs))) e in
     omega arith
 
-pub line-more : (cs : List ℕ) (k goal : ℕ) → k < length cs → (get_or cs k 0 ≡ 10 → ⊥) → k + line_length (drop k cs) ≡ goal → k + 1 + line_length (drop (k + 1) cs) ≡ goal
-line-more cs k goal h ne inv =
+pub line_more : (cs : List ℕ) (k goal : ℕ) → k < length cs → (get_or cs k 0 ≡ 10 → ⊥) → k + line_length (drop k cs) ≡ goal → k + 1 + line_length (drop (k + 1) cs) ≡ goal
+line_more cs k goal h ne inv =
     let d : line_length (drop k cs) ≡ 1 + line_length (drop (k + 1) cs) = ap line_length (drop_more cs k 0 h) ∙ ap (λ z. cond z 0 (1 + line_length (drop (k + 1) cs))) (ne_eqb (get_or cs k 0) 10 ne) in
     omega arith
 
-pub line-done : (cs : List ℕ) (k goal : ℕ) → length cs ≤ k → k + line_length (drop k cs) ≡ goal → k ≡ goal
-line-done cs k goal h inv = let d : line_length (drop k cs) ≡ 0 = ap line_length (drop_all k cs h) in omega arith
+pub line_done : (cs : List ℕ) (k goal : ℕ) → length cs ≤ k → k + line_length (drop k cs) ≡ goal → k ≡ goal
+line_done cs k goal h inv = let d : line_length (drop k cs) ≡ 0 = ap line_length (drop_all k cs h) in omega arith
 
 pub no_line : NoLine
 unfolding lines_of
 no_line = refl
 
-pub ended-line : EndedLine
+pub ended_line : EndedLine
 unfolding lines_of
-ended-line [] cs u = refl
-ended-line (c ∷ l) cs u = go (eqb c 10) u (ended-line l cs)
+ended_line [] cs u = refl
+ended_line (c ∷ l) cs u = go (eqb c 10) u (ended_line l cs)
   where
     go : (b : Bool) → (not b && unbroken l) ≡ true → (unbroken l ≡ true → lines_of (l ++ 10 ∷ cs) ≡ l ∷ lines_of cs)
         → cond b ([] ∷ lines_of (l ++ 10 ∷ cs)) (in_front c (lines_of (l ++ 10 ∷ cs))) ≡ (c ∷ l) ∷ lines_of cs

@@ -11,7 +11,7 @@ use Rattle.frames.specs.declared.frame.Frame.TheVariants.{Accept, Map, Over, Ent
 use Rattle.frames.specs.declared.frame.Kinds.TheVariants.{Net}
 use Rattle.frames.specs.Lines.{line_read}
 use Rattle.loading.specs.declared.fault.Part.{Part}
-use Rattle.loading.specs.declared.fault.Part.TheVariants.{Text as of-text, Frame as of-frame, Net as of-net}
+use Rattle.loading.specs.declared.fault.Part.TheVariants.{Text as of_text, Frame as of_frame, Net as of_net}
 use Rattle.loading.specs.declared.fault.LoadFault.{LoadFault}
 
 -- the kinds that a net reads
@@ -45,13 +45,13 @@ stop_of f = record { line = f.line; part = f.part; why = told f.fault }
 
 -- of the refusals to read a line, 12 and 13 are about its text, the others about its frame
 abbrev pub reading_part_lem : Refusal → Part
-reading_part_lem r = cond (number r == 12 || number r == 13) of-text of-frame
+reading_part_lem r = cond (number r == 12 || number r == 13) of_text of_frame
 
 -- what an edit at a line leaves, by how it ends; an edit of a net is never foreign
 abbrev pub left_by : ℕ → End × Kept → Result Kept Stop
 left_by i x = elim x.0 [
   | granted ↦ Ok x.1
-  | refused r ↦ Err (record { line = i; part = of-net; why = r })
+  | refused r ↦ Err (record { line = i; part = of_net; why = r })
   | foreign ↦ Ok x.1
 ]
 

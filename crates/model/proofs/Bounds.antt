@@ -19,10 +19,10 @@ below_at p (suc n) e i h = go (and_parts (each_below p n) (p n) e) (below_at p n
     go q ih (inl l) = ih q.0 i l
     go q ih (inr l) = let e : n ≡ i = omega arith in subst (λ j. p j ≡ true) e q.1
 
-pub from-below : (p : ℕ → Bool) (n : ℕ) → ((i : ℕ) → i < n → p i ≡ true) → each_below p n ≡ true
+pub from_below : (p : ℕ → Bool) (n : ℕ) → ((i : ℕ) → i < n → p i ≡ true) → each_below p n ≡ true
 unfolding each_below
-from-below p zero h = refl
-from-below p (suc n) h = and_from (each_below p n) (p n) (from-below p n (λ i l. h i (omega arith))) (h n (omega arith))
+from_below p zero h = refl
+from_below p (suc n) h = and_from (each_below p n) (p n) (from_below p n (λ i l. h i (omega arith))) (h n (omega arith))
 
 -- the least number below a bound that passes a test
 pub record Least (p : ℕ → Bool) (n i : ℕ) : Type 0 where
@@ -34,10 +34,10 @@ abbrev pub LeastOf : (ℕ → Bool) → ℕ → Option ℕ → Type 0
 LeastOf p n none = (i : ℕ) → i < n → p i ≡ false
 LeastOf p n (some i) = Least p n i
 
-pub least-is : (p : ℕ → Bool) (n : ℕ) → LeastOf p n (least p n)
+pub least_is : (p : ℕ → Bool) (n : ℕ) → LeastOf p n (least p n)
 unfolding least
-least-is p zero = λ i h. absurd (omega arith)
-least-is p (suc n) = go (least p n) (least-is p n)
+least_is p zero = λ i h. absurd (omega arith)
+least_is p (suc n) = go (least p n) (least_is p n)
   where
     here : LeastOf p n none → (b : Bool) → p n ≡ b → LeastOf p (suc n) (cond b (some n) none)
     here h true e = record { under = omega arith; passes = e; earlier = h }
@@ -55,8 +55,8 @@ one_least p n i j f g =
       | inr c ↦ elim (cases_lt j i) [ inl d ↦ absurd (false≢true (sym (f.earlier j d) ∙ g.passes)) | inr d ↦ omega arith ]
     ]
 
-pub is-least : (p : ℕ → Bool) (n : ℕ) (o : Option ℕ) → LeastOf p n o → least p n ≡ o
-is-least p n o h = go (least p n) (least-is p n) o h
+pub is_least : (p : ℕ → Bool) (n : ℕ) (o : Option ℕ) → LeastOf p n o → least p n ≡ o
+is_least p n o h = go (least p n) (least_is p n) o h
   where
     go : (u : Option ℕ) → LeastOf p n u → (o : Option ℕ) → LeastOf p n o → u ≡ o
     go none f none g = refl
@@ -75,17 +75,17 @@ FirstOf k m none = (n a : ℕ) → n < m → a < top → overfull k n a ≡ fals
 FirstOf k m (some x) = First k m x.0 x.1
 
 module _ (k : Kept) where
-  pub first-is : (m : ℕ) → FirstOf k m (first_overfull_lem k m)
+  pub first_is : (m : ℕ) → FirstOf k m (first_overfull_lem k m)
   unfolding first_overfull_lem
-  first-is zero = λ n a h l. absurd (omega arith)
-  first-is (suc m) = go (first_overfull_lem k m) (first-is m)
+  first_is zero = λ n a h l. absurd (omega arith)
+  first_is (suc m) = go (first_overfull_lem k m) (first_is m)
     where
       here : FirstOf k m none → (o : Option ℕ) → LeastOf (overfull k m) top o → FirstOf k (suc m) (elim o [ some a ↦ some (m, a) | none ↦ none ])
       here h none f = λ n a c l. elim (cases_lt n m) [ inl d ↦ h n a d l | inr d ↦ let q : m ≡ n = omega arith in subst (λ j. overfull k j a ≡ false) q (f a l) ]
       here h (some a) f = record { node_under = omega arith; at_least = f; nodes_before = h }
 
       go : (o : Option (ℕ × ℕ)) → FirstOf k m o → FirstOf k (suc m) (elim o [ some x ↦ some x | none ↦ elim (least (overfull k m) top) [ some a ↦ some (m, a) | none ↦ none ] ])
-      go none h = here h (least (overfull k m) top) (least-is (overfull k m) top)
+      go none h = here h (least (overfull k m) top) (least_is (overfull k m) top)
       go (some x) h = let u = h.node_under in record { node_under = omega arith; at_least = h.at_least; nodes_before = h.nodes_before }
 
   one_first : (m : ℕ) (x y : ℕ × ℕ) → First k m x.0 x.1 → First k m y.0 y.1 → x ≡ y
@@ -102,8 +102,8 @@ module _ (k : Kept) where
         ]
       ]
 
-  pub is-first : (m : ℕ) (o : Option (ℕ × ℕ)) → FirstOf k m o → first_overfull_lem k m ≡ o
-  is-first m o h = go (first_overfull_lem k m) (first-is m) o h
+  pub is_first : (m : ℕ) (o : Option (ℕ × ℕ)) → FirstOf k m o → first_overfull_lem k m ≡ o
+  is_first m o h = go (first_overfull_lem k m) (first_is m) o h
     where
       go : (u : Option (ℕ × ℕ)) → FirstOf k m u → (o : Option (ℕ × ℕ)) → FirstOf k m o → u ≡ o
       go none f none g = refl
@@ -122,15 +122,15 @@ module _ (k : Kept) where
   pub walks_soon : (n a : ℕ) → EndsSoon k n a → ends_soon k n a ≡ true
   walks_soon n a p = ap finite (complete k p.1 64 p.2)
 
-  long-overfull : (n a : ℕ) → TooLong k n a → overfull k n a ≡ true
-  long-overfull n a l = go (ends_soon k n a) refl
+  long_overfull : (n a : ℕ) → TooLong k n a → overfull k n a ≡ true
+  long_overfull n a l = go (ends_soon k n a) refl
     where
       go : (b : Bool) → ends_soon k n a ≡ b → not b ≡ true
       go true e = let p = soon_walks n a e in let h = p.2 in let i = l p.0 p.1 in absurd (omega arith)
       go false e = refl
 
-  overfull-long : (n a : ℕ) → overfull k n a ≡ true → TooLong k n a
-  overfull-long n a e met w = elim (cases_lt 64 (length met)) [ inl l ↦ l | inr l ↦ absurd (true≢false (sym e ∙ ap not (walks_soon n a (met, w, l)))) ]
+  overfull_long : (n a : ℕ) → overfull k n a ≡ true → TooLong k n a
+  overfull_long n a e met w = elim (cases_lt 64 (length met)) [ inl l ↦ l | inr l ↦ absurd (true≢false (sym e ∙ ap not (walks_soon n a (met, w, l)))) ]
 
   not_soon : (n a : ℕ) → overfull k n a ≡ false → EndsSoon k n a
   not_soon n a e = soon_walks n a (go (ends_soon k n a) e)
@@ -146,11 +146,11 @@ module _ (k : Kept) where
   bound_walked b n a h l = soon_walks n a (below_at (ends_soon k n) top (below_at (λ i. each_below (ends_soon k i) top) 32 b n h) a l)
 
   pub walked_bound : WalksEnd k → Bounded k
-  walked_bound w = from-below (λ i. each_below (ends_soon k i) top) 32 (λ n h. from-below (ends_soon k n) top (λ a l. walks_soon n a (w n a h l)))
+  walked_bound w = from_below (λ i. each_below (ends_soon k i) top) 32 (λ n h. from_below (ends_soon k n) top (λ a l. walks_soon n a (w n a h l)))
 
   -- the question about walks
   pub asked-walked : walks_bounded k ≡ none → WalksEnd k
-  asked-walked e n a h l = go (first_overfull_lem k 32) (first-is 32) e
+  asked-walked e n a h l = go (first_overfull_lem k 32) (first_is 32) e
     where
       go : (o : Option (ℕ × ℕ)) → FirstOf k 32 o → ◌≡◌ {A = Option Refusal} (elim o [ none ↦ none | some x ↦ some (at_name 8 x.0 x.1) ]) none → EndsSoon k n a
       go none f g = not_soon n a (f n a h l)
@@ -159,10 +159,10 @@ module _ (k : Kept) where
   pub walked-asked : WalksEnd k → walks_bounded k ≡ none
   walked-asked w =
       ap (λ o. elim o [ none ↦ none | some x ↦ some (at_name 8 x.0 x.1) ])
-      (is-first 32 none (λ n a h l. soon_not n a (w n a h l)))
+      (is_first 32 none (λ n a h l. soon_not n a (w n a h l)))
 
-  pub asked-first : (n a : ℕ) → walks_bounded k ≡ some (at_name 8 n a) → FirstTooLong k n a
-  asked-first n a e = go (first_overfull_lem k 32) (first-is 32) e
+  pub asked_first : (n a : ℕ) → walks_bounded k ≡ some (at_name 8 n a) → FirstTooLong k n a
+  asked_first n a e = go (first_overfull_lem k 32) (first_is 32) e
     where
       go : (o : Option (ℕ × ℕ)) → FirstOf k 32 o → ◌≡◌ {A = Option Refusal} (elim o [ none ↦ none | some x ↦ some (at_name 8 x.0 x.1) ]) (some (at_name 8 n a)) → FirstTooLong k n a
       go none f g = let z : ◌≡◌ {A = ℕ} 0 1 = cc in absurd (omega arith)
@@ -173,21 +173,21 @@ module _ (k : Kept) where
           record {
             known = f'.node_under;
             low = f'.at_least.under;
-            long = overfull-long n a f'.at_least.passes;
+            long = overfull_long n a f'.at_least.passes;
             before = λ i b l c. not_soon i b (elim c [
               | inl d ↦ f'.nodes_before i b d l
               | inr d ↦ subst (λ j. overfull k j b ≡ false) (sym d.0) (f'.at_least.earlier b d.1)
             ]);
           }
 
-  pub first-asked : (n a : ℕ) → FirstTooLong k n a → walks_bounded k ≡ some (at_name 8 n a)
-  first-asked n a f =
+  pub first_asked : (n a : ℕ) → FirstTooLong k n a → walks_bounded k ≡ some (at_name 8 n a)
+  first_asked n a f =
       ap (λ o. elim o [ none ↦ none | some x ↦ some (at_name 8 x.0 x.1) ])
-      (is-first 32 (some (n, a)) (record {
+      (is_first 32 (some (n, a)) (record {
         node_under = f.known;
         at_least = record {
           under = f.low;
-          passes = long-overfull n a f.long;
+          passes = long_overfull n a f.long;
           earlier = λ b h. let l = f.low in soon_not n b (f.before n b (omega arith) (inr (refl, h)));
         };
         nodes_before = λ i b h l. soon_not i b (f.before i b l (inl h));

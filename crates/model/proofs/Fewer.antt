@@ -63,9 +63,9 @@ chosen_less [] ys false over h = none_of (chosen ys false over)
 chosen_less (x ∷ xs) [] accepted over h = elim h [ ]
 chosen_less (x ∷ xs) (y ∷ ys) accepted over h = h
 
-maps-less : (n a : ℕ) (ms ns : List MapBlock) → Sublist (mapped ms n a) (mapped (ms ++ ns) n a)
-maps-less n a [] ns = none_of (mapped ns n a)
-maps-less n a (m ∷ ms) ns = go (eqb m.node n && within m.lo m.hi a) (maps-less n a ms ns)
+maps_less : (n a : ℕ) (ms ns : List MapBlock) → Sublist (mapped ms n a) (mapped (ms ++ ns) n a)
+maps_less n a [] ns = none_of (mapped ns n a)
+maps_less n a (m ∷ ms) ns = go (eqb m.node n && within m.lo m.hi a) (maps_less n a ms ns)
   where
     go : (b : Bool) → Sublist (mapped ms n a) (mapped (ms ++ ns) n a)
         → Sublist (cond b (spot m.destination (m.base + (a - m.lo)) ∷ mapped ms n a) (mapped ms n a))
@@ -74,17 +74,17 @@ maps-less n a (m ∷ ms) ns = go (eqb m.node n && within m.lo m.hi a) (maps-less
     go false ih = ih
 
 -- the first of the map blocks, and no overlays
-pub first-maps : (k : Kept) (ms ns : List MapBlock) → k.maps ≡ ms ++ ns → FewerSteps (with_overlays (with_maps k ms) (replicate 32 33)) k
-first-maps k ms ns e n a =
+pub first_maps : (k : Kept) (ms ns : List MapBlock) → k.maps ≡ ms ++ ns → FewerSteps (with_overlays (with_maps k ms) (replicate 32 33)) k
+first_maps k ms ns e n a =
     let acc = accepting k.accepts n a in
     let over = overlaid (get_or k.overlays n 33) a in
     subst (λ d. Sublist (chosen (mapped ms n a) acc (overlaid d a)) (chosen (mapped k.maps n a) acc over)) (sym (none_over n))
     (subst (λ l. Sublist (chosen (mapped ms n a) acc []) (chosen (mapped l n a) acc over)) (sym e)
-    (chosen_less (mapped ms n a) (mapped (ms ++ ns) n a) acc over (maps-less n a ms ns)))
+    (chosen_less (mapped ms n a) (mapped (ms ++ ns) n a) acc over (maps_less n a ms ns)))
 
 -- some of the overlays
-pub some-overlays : (k : Kept) (ds : List ℕ) → ((n : ℕ) → (get_or ds n 33 ≡ get_or k.overlays n 33) ⊎ (get_or ds n 33 ≡ 33)) → FewerSteps (with_overlays k ds) k
-some-overlays k ds h n a = go (h n)
+pub some_overlays : (k : Kept) (ds : List ℕ) → ((n : ℕ) → (get_or ds n 33 ≡ get_or k.overlays n 33) ⊎ (get_or ds n 33 ≡ 33)) → FewerSteps (with_overlays k ds) k
+some_overlays k ds h n a = go (h n)
   where
     unset : (xs : List Spot) (b : Bool) → Sublist (chosen xs b []) (chosen xs b (overlaid (get_or k.overlays n 33) a))
     unset [] true = empty
@@ -100,9 +100,9 @@ some-overlays k ds h n a = go (h n)
         (unset (mapped k.maps n a) (accepting k.accepts n a))
 
 -- one map block less, at a node that has no overlay to take its place
-maps-without : (p : MapBlock → Bool) (n a : ℕ) (ms : List MapBlock) → Sublist (mapped (without p ms) n a) (mapped ms n a)
-maps-without p n a [] = empty
-maps-without p n a (m ∷ ms) = go (p m) (eqb m.node n && within m.lo m.hi a) refl (maps-without p n a ms)
+maps_without : (p : MapBlock → Bool) (n a : ℕ) (ms : List MapBlock) → Sublist (mapped (without p ms) n a) (mapped ms n a)
+maps_without p n a [] = empty
+maps_without p n a (m ∷ ms) = go (p m) (eqb m.node n && within m.lo m.hi a) refl (maps_without p n a ms)
   where
     go : (b c : Bool) → (eqb m.node n && within m.lo m.hi a) ≡ c → Sublist (mapped (without p ms) n a) (mapped ms n a)
         → Sublist (mapped (cond b ms (m ∷ without p ms)) n a) (cond c (spot m.destination (m.base + (a - m.lo)) ∷ mapped ms n a) (mapped ms n a))
@@ -135,7 +135,7 @@ map_dropped k b bare n a = go (cases_eq b.node n)
     go (inl e) =
         let none : get_or k.overlays n 33 ≡ 33 = subst (λ i. get_or k.overlays i 33 ≡ 33) e bare in
         subst (λ d. Sublist (chosen (mapped (without (same_map b) k.maps) n a) (accepting k.accepts n a) (overlaid d a)) (chosen (mapped k.maps n a) (accepting k.accepts n a) (overlaid d a))) (sym none)
-        (chosen_less (mapped (without (same_map b) k.maps) n a) (mapped k.maps n a) (accepting k.accepts n a) [] (maps-without (same_map b) n a k.maps))
+        (chosen_less (mapped (without (same_map b) k.maps) n a) (mapped k.maps n a) (accepting k.accepts n a) [] (maps_without (same_map b) n a k.maps))
     go (inr ne) =
         subst (λ l. Sublist (chosen l (accepting k.accepts n a) (overlaid (get_or k.overlays n 33) a)) (chosen (mapped k.maps n a) (accepting k.accepts n a) (overlaid (get_or k.overlays n 33) a))) (sym (maps_elsewhere b n a ne k.maps))
         (all_of (chosen (mapped k.maps n a) (accepting k.accepts n a) (overlaid (get_or k.overlays n 33) a)))

@@ -56,13 +56,13 @@ map-holds f (x ∷ xs) y h =
 
 -- where a gathered name comes from
 pub data Found (k : Kept) (under : ℕ → List Name) (met : List Spot) (x : Name) : Type 0 where
-  at-node : (n a : ℕ) → Among (node n a) met → accepting k.accepts n a ≡ true → x ≡ own k n a → Found k under met x
-  from-below : (a : ℕ) → Among (below a) met → holds (under a) x ≡ true → Found k under met x
+  at_node : (n a : ℕ) → Among (node n a) met → accepting k.accepts n a ≡ true → x ≡ own k n a → Found k under met x
+  from_below : (a : ℕ) → Among (below a) met → holds (under a) x ≡ true → Found k under met x
 
 module _ (k : Kept) (under : ℕ → List Name) (x : Name) where
-  found-later : (s : Spot) (met : List Spot) → Found k under met x → Found k under (s ∷ met) x
-  found-later s met (at-node n a i e f) = at-node n a (later i) e f
-  found-later s met (from-below a i h) = from-below a (later i) h
+  found_later : (s : Spot) (met : List Spot) → Found k under met x → Found k under (s ∷ met) x
+  found_later s met (at_node n a i e f) = at_node n a (later i) e f
+  found_later s met (from_below a i h) = from_below a (later i) h
 
   pub gathered-found : (met : List Spot) → holds (gathered k under met) x ≡ true → Found k under met x
   gathered-found [] h = absurd (false≢true h)
@@ -72,30 +72,30 @@ module _ (k : Kept) (under : ℕ → List Name) (x : Name) where
           → holds (cond b (own k n a ∷ gathered k under met) (gathered k under met)) x ≡ true → Found k under (node n a ∷ met) x
       go true e ih h =
           elim (or_cases (same_name (own k n a) x) (holds (gathered k under met) x) h) [
-            | inl f ↦ at-node n a here e (sym (same_true (own k n a) x f))
-            | inr f ↦ found-later (node n a) met (ih f)
+            | inl f ↦ at_node n a here e (sym (same_true (own k n a) x f))
+            | inr f ↦ found_later (node n a) met (ih f)
           ]
-      go false e ih h = found-later (node n a) met (ih h)
+      go false e ih h = found_later (node n a) met (ih h)
   gathered-found (below a ∷ met) h =
       elim (holds_either x (under a) (gathered k under met) h) [
-        | inl f ↦ from-below a here f
-        | inr f ↦ found-later (below a) met (gathered-found met f)
+        | inl f ↦ from_below a here f
+        | inr f ↦ found_later (below a) met (gathered-found met f)
       ]
 
-  gathered-later : (s : Spot) (met : List Spot) → holds (gathered k under met) x ≡ true → holds (gathered k under (s ∷ met)) x ≡ true
-  gathered-later (node n a) met h = go (accepting k.accepts n a)
+  gathered_later : (s : Spot) (met : List Spot) → holds (gathered k under met) x ≡ true → holds (gathered k under (s ∷ met)) x ≡ true
+  gathered_later (node n a) met h = go (accepting k.accepts n a)
     where
       go : (b : Bool) → holds (cond b (own k n a ∷ gathered k under met) (gathered k under met)) x ≡ true
       go true = or_right (same_name (own k n a) x) (holds (gathered k under met) x) h
       go false = h
-  gathered-later (below a) met h = holds_right x (under a) (gathered k under met) h
+  gathered_later (below a) met h = holds_right x (under a) (gathered k under met) h
 
   pub gathers_below : (a : ℕ) → holds (under a) x ≡ true → {met : List Spot} → Among (below a) met → holds (gathered k under met) x ≡ true
   gathers_below a h (here {rest}) = holds_left x (under a) (gathered k under rest) h
-  gathers_below a h (later {y = s} {rest} i) = gathered-later s rest (gathers_below a h i)
+  gathers_below a h (later {y = s} {rest} i) = gathered_later s rest (gathers_below a h i)
 
   pub gathers_node : (n a : ℕ) → accepting k.accepts n a ≡ true → x ≡ own k n a → {met : List Spot} → Among (node n a) met → holds (gathered k under met) x ≡ true
   gathers_node n a e f (here {rest}) =
       ap (λ b. holds (cond b (own k n a ∷ gathered k under rest) (gathered k under rest)) x) e
       ∙ or_left (same_name (own k n a) x) (holds (gathered k under rest) x) (ap (λ z. same_name (own k n a) z) f ∙ same_self (own k n a))
-  gathers_node n a e f (later {y = s} {rest} i) = gathered-later s rest (gathers_node n a e f i)
+  gathers_node n a e f (later {y = s} {rest} i) = gathered_later s rest (gathers_node n a e f i)

@@ -20,16 +20,16 @@ module _ (k : Kept) (b : AcceptBlock) where
   abbrev more : Kept
   more = net_after k (accept b)
 
-  accepting-more : (n a : ℕ) (bs : List AcceptBlock) → accepting bs n a ≡ true → accepting (bs ++ b ∷ []) n a ≡ true
-  accepting-more n a [] e = absurd (false≢true e)
-  accepting-more n a (c ∷ bs) e =
+  accepting_more : (n a : ℕ) (bs : List AcceptBlock) → accepting bs n a ≡ true → accepting (bs ++ b ∷ []) n a ≡ true
+  accepting_more n a [] e = absurd (false≢true e)
+  accepting_more n a (c ∷ bs) e =
       elim (or_cases (eqb c.node n && within c.lo c.hi a) (accepting bs n a) e) [
         | inl f ↦ or_left (eqb c.node n && within c.lo c.hi a) (accepting (bs ++ b ∷ []) n a) f
-        | inr f ↦ or_right (eqb c.node n && within c.lo c.hi a) (accepting (bs ++ b ∷ []) n a) (accepting-more n a bs f)
+        | inr f ↦ or_right (eqb c.node n && within c.lo c.hi a) (accepting (bs ++ b ∷ []) n a) (accepting_more n a bs f)
       ]
 
   accept_fewer : FewerSteps more k
-  accept_fewer n a = go (mapped k.maps n a) (accepting k.accepts n a) (accepting (k.accepts ++ b ∷ []) n a) (accepting-more n a k.accepts)
+  accept_fewer n a = go (mapped k.maps n a) (accepting k.accepts n a) (accepting (k.accepts ++ b ∷ []) n a) (accepting_more n a k.accepts)
     where
       go : (xs : List Spot) (acc acc' : Bool) → (acc ≡ true → acc' ≡ true) → Sublist (chosen xs acc' (overlaid (get_or k.overlays n 33) a)) (chosen xs acc (overlaid (get_or k.overlays n 33) a))
       go (x ∷ xs) acc acc' h = all_of (x ∷ xs)
@@ -61,26 +61,26 @@ asked-all (q ∷ qs) e = go q.0 refl e (asked-all qs)
     go true f e ih = (f, ih e)
     go false f e ih = let z : ◌≡◌ {A = ℕ} 0 1 = cc in absurd (omega arith)
 
-settled-sound : (o : Option Refusal) (new old : Model) → (o ≡ none → Sound new) → Sound old → Sound (settled o new old).1
-settled-sound none new old h s = h refl
-settled-sound (some r) new old h s = s
+settled_sound : (o : Option Refusal) (new old : Model) → (o ≡ none → Sound new) → Sound old → Sound (settled o new old).1
+settled_sound none new old h s = h refl
+settled_sound (some r) new old h s = s
 
 -- what a granted edit leaves is formed and bounded
 module _ (k : Kept) (f : Formed k) where
-  after-formed : (e : NetEdit) → asked (net_questions k e) ≡ none → Formed (net_after k e)
-  after-formed (accept b) q = record { entry_known = f.entry_known; targets_fit = f.targets_fit }
-  after-formed (map_to b) q = record {
+  after_formed : (e : NetEdit) → asked (net_questions k e) ≡ none → Formed (net_after k e)
+  after_formed (accept b) q = record { entry_known = f.entry_known; targets_fit = f.targets_fit }
+  after_formed (map_to b) q = record {
     entry_known = f.entry_known;
     targets_fit = All-push (λ b. TargetFits b.lo b.hi b.base) k.maps b f.targets_fit
         (ltb-true (b.base + (b.hi - b.lo)) top (asked-all (net_questions k (map_to b)) q).1.1.1.0);
   }
-  after-formed (over n d) q = record { entry_known = f.entry_known; targets_fit = f.targets_fit }
-  after-formed (drop_accept b) q = record { entry_known = f.entry_known; targets_fit = f.targets_fit }
-  after-formed (drop_map b) q = record {
+  after_formed (over n d) q = record { entry_known = f.entry_known; targets_fit = f.targets_fit }
+  after_formed (drop_accept b) q = record { entry_known = f.entry_known; targets_fit = f.targets_fit }
+  after_formed (drop_map b) q = record {
     entry_known = f.entry_known;
     targets_fit = all_without (λ b. TargetFits b.lo b.hi b.base) (same_map b) k.maps f.targets_fit;
   }
-  after-formed (enter n) q = record {
+  after_formed (enter n) q = record {
     entry_known = let l : n ≤ 31 = leb-true n 31 (asked-all (net_questions k (enter n)) q).0 in omega arith;
     targets_fit = f.targets_fit;
   }
@@ -99,15 +99,15 @@ after_bound k (enter n) s q = enter_bound k n s
 pub kept : (m : Model) (e : Edit) → Sound m → PlugsSound e → Sound (edited m e).1
 kept (bottom list) e s p = tt
 kept (net k m) (on_net e) s p =
-    settled-sound (net_refusal k e) (net (net_after k e) m) (net k m)
-    (λ q. (after-formed k s.0 e (then-none (asked (net_questions k e)) (cond (asks_walks e) (walks_bounded (net_after k e)) none) q).0, after_bound k e s.1 q, s.2)) s
+    settled_sound (net_refusal k e) (net (net_after k e) m) (net k m)
+    (λ q. (after_formed k s.0 e (then-none (asked (net_questions k e)) (cond (asks_walks e) (walks_bounded (net_after k e)) none) q).0, after_bound k e s.1 q, s.2)) s
 kept (net k m) (pair from to) s p = s
 kept (net k m) (plug new) s p = (s.0, s.1, p)
 kept (window lo hi base m) (on_net e) s p = s
 kept (window lo hi base m) (pair from to) s p = s
 kept (window lo hi base m) (plug new) s p = (s.0, p)
 kept (renaming ps m) (on_net e) s p = s
-kept (renaming ps m) (pair from to) s p = settled-sound (pair_refusal ps from) (renaming (ps ++ (from, to) ∷ []) m) (renaming ps m) (λ e. s) s
+kept (renaming ps m) (pair from to) s p = settled_sound (pair_refusal ps from) (renaming (ps ++ (from, to) ∷ []) m) (renaming ps m) (λ e. s) s
 kept (renaming ps m) (plug new) s p = p
 
 pub sound_ends : (m : Model) → Sound m → AllWalksEnd m
@@ -116,8 +116,8 @@ sound_ends (net k m) s = (bound_walked k s.1, sound_ends m s.2)
 sound_ends (window lo hi base m) s = sound_ends m s.1
 sound_ends (renaming ps m) s = sound_ends m s
 
-pub fresh-sound : (g : ℕ) (m : Model) → Sound m → Sound (net (fresh g) m)
-fresh-sound g m s = (record { entry_known = omega arith; targets_fit = tt }, bound, s)
+pub fresh_sound : (g : ℕ) (m : Model) → Sound m → Sound (net (fresh g) m)
+fresh_sound g m s = (record { entry_known = omega arith; targets_fit = tt }, bound, s)
   where
     bound : Bounded (fresh g)
     bound = walked_bound (fresh g) (λ n a h l. (node n a ∷ ([] ++ []), goes_on (subst (λ d. Walk (fresh g) (overlaid d a) []) (sym (none_over n)) done) done, omega arith))

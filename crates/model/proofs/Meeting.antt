@@ -56,8 +56,8 @@ abbrev pub at : Spot → ℕ
 at (node n a) = a
 at (below a) = a
 
-at-spot : (d a : ℕ) → at (spot d a) ≡ a
-at-spot d a = go (eqb d 32)
+at_spot : (d a : ℕ) → at (spot d a) ≡ a
+at_spot d a = go (eqb d 32)
   where
     go : (b : Bool) → at (cond b (below a) (node d a)) ≡ a
     go true = refl
@@ -70,12 +70,12 @@ module _ (n a : ℕ) (l : a < top) where
       let q = and_parts (leb b.lo a) (leb a b.hi) p.1 in
       let h : b.lo ≤ a = leb-true b.lo a q.0 in
       let i : a ≤ b.hi = leb-true a b.hi q.1 in
-      let j = at-spot b.destination (b.base + (a - b.lo)) in
+      let j = at_spot b.destination (b.base + (a - b.lo)) in
       omega arith
 
-  mapped-low : (bs : List MapBlock) → AllByRecursion (λ b. TargetFits b.lo b.hi b.base) bs → (s : Spot) → Among s (mapped bs n a) → at s < top
-  mapped-low [] f s i = elim i [ ]
-  mapped-low (b ∷ bs) f s i = go (eqb b.node n && within b.lo b.hi a) refl (mapped bs n a) (mapped-low bs f.1) s i
+  mapped_low : (bs : List MapBlock) → AllByRecursion (λ b. TargetFits b.lo b.hi b.base) bs → (s : Spot) → Among s (mapped bs n a) → at s < top
+  mapped_low [] f s i = elim i [ ]
+  mapped_low (b ∷ bs) f s i = go (eqb b.node n && within b.lo b.hi a) refl (mapped bs n a) (mapped_low bs f.1) s i
     where
       go : (c : Bool) → (eqb b.node n && within b.lo b.hi a) ≡ c → (rest : List Spot) → ((s : Spot) → Among s rest → at s < top)
           → (s : Spot) → Among s (cond c (spot b.destination (b.base + (a - b.lo)) ∷ rest) rest) → at s < top
@@ -83,20 +83,20 @@ module _ (n a : ℕ) (l : a < top) where
       go true e rest ih s (later i) = ih s i
       go false e rest ih s i = ih s i
 
-  overlaid-low : (d : ℕ) (s : Spot) → Among s (overlaid d a) → at s < top
-  overlaid-low d s i = go (leb d 32) s i
+  overlaid_low : (d : ℕ) (s : Spot) → Among s (overlaid d a) → at s < top
+  overlaid_low d s i = go (leb d 32) s i
     where
       go : (c : Bool) (s : Spot) → Among s (cond c (spot d a ∷ []) []) → at s < top
-      go true s here = let j = at-spot d a in omega arith
+      go true s here = let j = at_spot d a in omega arith
       go true s (later i) = elim i [ ]
       go false s i = elim i [ ]
 
   pub steps_low : (k : Kept) → Formed k → (s : Spot) → Among s (steps k n a) → at s < top
-  steps_low k f s i = go (mapped k.maps n a) (mapped-low k.maps f.targets_fit) s i
+  steps_low k f s i = go (mapped k.maps n a) (mapped_low k.maps f.targets_fit) s i
     where
       over : (c : Bool) (s : Spot) → Among s (cond c [] (overlaid (get_or k.overlays n 33) a)) → at s < top
       over true s i = elim i [ ]
-      over false s i = overlaid-low (get_or k.overlays n 33) s i
+      over false s i = overlaid_low (get_or k.overlays n 33) s i
 
       go : (xs : List Spot) → ((s : Spot) → Among s xs → at s < top) → (s : Spot)
           → Among s (elim xs [ [] ↦ cond (accepting k.accepts n a) [] (overlaid (get_or k.overlays n 33) a) | x ∷ xs ↦ x ∷ xs ]) → at s < top

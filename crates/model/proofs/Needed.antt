@@ -45,8 +45,8 @@ looping_bound = walked_bound looping (λ n a h l.
     at_once looping n a (no_steps looping.accepts looping.maps 40 n a
     (ap (λ b. cond b (node 40 (0 + (a - 0)) ∷ []) []) (and_left (eqb 40 n) (within 0 0 a) (ne_eqb 40 n (λ e. omega arith))))))
 
-pub entry-needed : EntryNeeded
-entry-needed = (
+pub entry_needed : EntryNeeded
+entry_needed = (
   looping,
   nowhere,
   own looping 40 0,
@@ -91,8 +91,8 @@ on_one = record { same_node = refl; from = omega arith; to = omega arith }
 one_node : ◌≡◌ {A = ℕ} 1 32 → ⊥
 one_node e = omega arith
 
-pub window-needed : WindowNeeded
-window-needed = (
+pub window_needed : WindowNeeded
+window_needed = (
   top,
   net wide nowhere,
   own wide 1 0,

@@ -71,7 +71,7 @@ unfoldable pub least : (ℕ → Bool) → ℕ → Option ℕ
 least p zero = none
 least p (suc n) = elim (least p n) [ some i ↦ some i | none ↦ cond (p n) (some n) none ]
 
--- the same as Walks-end, computed, so that a ghost field can say it
+-- the same as WalksEnd, computed, so that a ghost field can say it
 abbrev pub bounded : Kept → Bool
 bounded k = each_below (λ n. each_below (ends_soon k n) top) 32
 

@@ -13,8 +13,8 @@ module _ (rows : List Record) (i : ℕ) (whole text : List ℕ) (inv : text ++ r
       ∙ append_assoc text (row_text (get_or rows i d)) (10 ∷ rows_text (drop (i + 1) rows))
       ∙ ap (λ l. text ++ l) (sym (at_drop_more rows_text rows i d h)) ∙ inv
 
-  pub rows-done : length rows ≤ i → text ≡ whole
-  rows-done h = sym (append-nil text) ∙ ap (λ l. text ++ l) (sym (at_drop_all rows_text rows i h)) ∙ inv
+  pub rows_done : length rows ≤ i → text ≡ whole
+  rows_done h = sym (append-nil text) ∙ ap (λ l. text ++ l) (sym (at_drop_all rows_text rows i h)) ∙ inv
 
 -- a text that stands at the front of a buffer ends within it
 pub written_within : (text before after : List ℕ) (n : ℕ) → n ≡ length text → after ≡ text ++ drop n before → n ≤ length after

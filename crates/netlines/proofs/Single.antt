@@ -32,8 +32,8 @@ pub popped : (x y : Answer) (before : List Answer) → x ∷ [] ≡ before ++ y 
 popped x y [] e = cc
 popped x y (b ∷ bs) e = let n = ap length e in let l = length-append bs (y ∷ []) in absurd (omega arith)
 
-pub not-empty : {A : Type 0} (x : A) (all : List A) (n : ℕ) → all ≡ x ∷ [] → n ≡ length all → n ≡ 0 → ⊥
-not-empty x all n e l z = let k = ap length e in omega arith
+pub not_empty : {A : Type 0} (x : A) (all : List A) (n : ℕ) → all ≡ x ∷ [] → n ≡ length all → n ≡ 0 → ⊥
+not_empty x all n e l z = let k = ap length e in omega arith
 
 pub take_shown : {A : Type 0} (count : ℕ) (xs : List A) → take (min count (length xs) - 0) xs ≡ take count xs
 take_shown count xs =

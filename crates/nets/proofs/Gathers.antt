@@ -26,16 +26,16 @@ each_more f xs i d x h e =
     ap (each f) (take_more xs i d h ∙ ap (λ y. take i xs ++ y ∷ []) e) ∙ each_append f (take i xs) (x ∷ [])
 
 -- the list of a front is no longer than that of the whole
-each-front : (f : ℕ → List Name) (xs : List Note) (i : ℕ) → length (each f (take i xs)) ≤ length (each f xs)
-each-front f xs i =
+each_front : (f : ℕ → List Name) (xs : List Note) (i : ℕ) → length (each f (take i xs)) ≤ length (each f xs)
+each_front f xs i =
     let e : each f (take i xs) ++ each f (drop i xs) ≡ each f xs =
     sym (each_append f (take i xs) (drop i xs)) ∙ ap (each f) (take-append-drop i xs) in
     let l = ap length e in
     let m = length-append (each f (take i xs)) (each f (drop i xs)) in
     omega (arith, l, m)
 
-filled-short : (xs old : List Name) → length old < length xs → filled xs old ≡ zeroed old
-filled-short xs old h = rw (lt-leb (length xs) (length old) h)
+filled_short : (xs old : List Name) → length old < length xs → filled xs old ≡ zeroed old
+filled_short xs old h = rw (lt-leb (length xs) (length old) h)
 
 filled-fits : (xs old : List Name) → length xs ≤ length old → filled xs old ≡ xs ++ drop (length xs) old
 filled-fits xs old h = rw (le-leb (length xs) (length old) h)
@@ -51,10 +51,10 @@ shorter f a far near r h k =
       none_past = λ d l. r.none_past d (omega arith);
     }
 
-steady-less : (f : ℕ → List Name) (room less : ℕ) → less ≤ room → (xs : List Note) → AllByRecursion (Steady f room) xs → AllByRecursion (Steady f less) xs
-steady-less f room less h [] s = tt
-steady-less f room less h (Own x ∷ xs) s = (tt, steady-less f room less h xs s.1)
-steady-less f room less h (Arrival a ∷ xs) s = (shorter f a (a + room) (a + less) s.0 (omega arith) (omega arith), steady-less f room less h xs s.1)
+steady_less : (f : ℕ → List Name) (room less : ℕ) → less ≤ room → (xs : List Note) → AllByRecursion (Steady f room) xs → AllByRecursion (Steady f less) xs
+steady_less f room less h [] s = tt
+steady_less f room less h (Own x ∷ xs) s = (tt, steady_less f room less h xs s.1)
+steady_less f room less h (Arrival a ∷ xs) s = (shorter f a (a + room) (a + less) s.0 (omega arith) (omega arith), steady_less f room less h xs s.1)
 
 -- the first i items are gathered
 pub record Going (f : ℕ → List Name) (xs : List Note) (span i count room : ℕ) (old slots : List Name) : Type 0 where
@@ -99,15 +99,15 @@ module _ (f : ℕ → List Name) (xs : List Note) (span : ℕ) (old : List Name)
       own-length : length (each f (take (i + 1) xs)) ≡ count + 1
       own-length = ap length (each_more f xs i d (Own x) at is) ∙ length_push (each f (take i xs)) x ∙ ap (λ n. n + 1) (sym g.counted)
 
-      pub own-short : length slots ≤ count → length old < length (each f xs)
-      own-short h =
+      pub own_short : length slots ≤ count → length old < length (each f xs)
+      own_short h =
           let l = own-length in
-          let m = each-front f xs (i + 1) in
+          let m = each_front f xs (i + 1) in
           let s = same_size in
           omega (arith, l, m, s)
 
-      pub own-more : count < length slots → Going f xs span (i + 1) (count + 1) room old (set slots count x)
-      own-more h =
+      pub own_more : count < length slots → Going f xs span (i + 1) (count + 1) room old (set slots count x)
+      own_more h =
           let s = same_size in
           let c = g.counted in
           let p : List Name = each f (take i xs) in
@@ -124,23 +124,23 @@ module _ (f : ℕ → List Name) (xs : List Note) (span : ℕ) (old : List Name)
           }
 
     module _ (a : ℕ) (d : Note) (at : i < length xs) (is : get_or xs i d ≡ Arrival a) where
-      more-is : each f (take (i + 1) xs) ≡ each f (take i xs) ++ f a
-      more-is = each_more f xs i d (Arrival a) at is ∙ ap (λ q. each f (take i xs) ++ q) (append-nil (f a))
+      more_is : each f (take (i + 1) xs) ≡ each f (take i xs) ++ f a
+      more_is = each_more f xs i d (Arrival a) at is ∙ ap (λ q. each f (take i xs) ++ q) (append-nil (f a))
 
-      more-length : length (each f (take (i + 1) xs)) ≡ count + length (f a)
-      more-length = ap length more-is ∙ length-append (each f (take i xs)) (f a) ∙ ap (λ n. n + length (f a)) (sym g.counted)
+      more_length : length (each f (take (i + 1) xs)) ≡ count + length (f a)
+      more_length = ap length more_is ∙ length-append (each f (take i xs)) (f a) ∙ ap (λ n. n + length (f a)) (sym g.counted)
 
-      part-is : take (length slots - count) (drop count slots) ≡ drop count old
-      part-is = take_rest slots count ∙ ap (drop count) g.placed ∙ drop_at (each f (take i xs)) (drop count old) count (sym g.counted)
+      part_is : take (length slots - count) (drop count slots) ≡ drop count old
+      part_is = take_rest slots count ∙ ap (drop count) g.placed ∙ drop_at (each f (take i xs)) (drop count old) count (sym g.counted)
 
-      part-size : length (take (length slots - count) (drop count slots)) ≡ length old - count
-      part-size = ap length part-is ∙ length-drop count old
+      part_size : length (take (length slots - count) (drop count slots)) ≡ length old - count
+      part_size = ap length part_is ∙ length-drop count old
 
       pub arrival_short : length (take (length slots - count) (drop count slots)) < length (f a) → length old < length (each f xs)
       arrival_short h =
-          let l = more-length in
-          let m = each-front f xs (i + 1) in
-          let p = part-size in
+          let l = more_length in
+          let m = each_front f xs (i + 1) in
+          let p = part_size in
           let w = g.within in
           omega (arith, l, m, p, w)
 
@@ -153,12 +153,12 @@ module _ (f : ℕ → List Name) (xs : List Note) (span : ℕ) (old : List Name)
           let c = g.counted in
           let w = g.within in
           let near = g.near in
-          let ps = part-size in
-          let ml = more-length in
+          let ps = part_size in
+          let ml = more_length in
           let rl = r.least in
           let p : List Name = each f (take i xs) in
           let q : part ≡ f a ++ drop (length (f a)) (drop count old) =
-          ep ∙ ap (filled (f a)) part-is ∙ filled-fits (f a) (drop count old) (let z = length-drop count old in omega (arith, z, em, hm, ps)) in
+          ep ∙ ap (filled (f a)) part_is ∙ filled-fits (f a) (drop count old) (let z = length-drop count old in omega (arith, z, em, hm, ps)) in
           let front : take count slots ≡ p = ap (take count) g.placed ∙ take_at p (drop count old) count (sym c) in
           let back : drop (length slots - count) (drop count slots) ≡ [] =
           drop_all (length slots - count) (drop count slots) (let z = length-drop count slots in omega (arith, z)) in
@@ -169,22 +169,22 @@ module _ (f : ℕ → List Name) (xs : List Note) (span : ℕ) (old : List Name)
                 ∙ ap (λ l. l ++ (part ++ [])) front
                 ∙ ap (λ l. p ++ l) (append-nil part ∙ q ∙ ap (λ l. f a ++ l) (drop-drop (length (f a)) count old))
                 ∙ sym (append_assoc p (f a) (drop (count + length (f a)) old))
-                ∙ ap (λ l. l ++ drop (count + length (f a)) old) (sym more-is)
+                ∙ ap (λ l. l ++ drop (count + length (f a)) old) (sym more_is)
                 ∙ ap (λ n. each f (take (i + 1) xs) ++ drop (count + n) old) (sym em);
             within = omega (arith, hm, ps, w);
             near = omega (arith, near);
             quiet =
                 subst (AllByRecursion (Steady f (min room (reach - a)))) (sym (take_more xs i d at ∙ ap (λ y. take i xs ++ y ∷ []) is))
                 (All-append (Steady f (min room (reach - a))) (take i xs) (Arrival a ∷ [])
-                (steady-less f room (min room (reach - a)) (omega arith) (take i xs) g.quiet)
+                (steady_less f room (min room (reach - a)) (omega arith) (take i xs) g.quiet)
                 (shorter f a reach (a + min room (reach - a)) r (omega arith) (omega (arith, rl)), tt));
           }
 
       pub put_size : (part : List Name) → length part ≡ length (take (length slots - count) (drop count slots)) → length (put_mid count (length slots - count) slots part) ≡ length old
       put_size part e = same_len_mid count (length slots - count) slots part e ∙ same_size
 
-  pub short-filled : (after : List Name) (n : ℕ) → after ≡ replicate n nothing → n ≡ length old → length old < length (each f xs) → after ≡ filled (each f xs) old
-  short-filled after n e en h = e ∙ ap (λ m. replicate m nothing) en ∙ sym (filled-short (each f xs) old h)
+  pub short_filled : (after : List Name) (n : ℕ) → after ≡ replicate n nothing → n ≡ length old → length old < length (each f xs) → after ≡ filled (each f xs) old
+  short_filled after n e en h = e ∙ ap (λ m. replicate m nothing) en ∙ sym (filled_short (each f xs) old h)
 
 pub going_as : (f : ℕ → List Name) (xs : List Note) (span i : ℕ) (old : List Name) (count count' room room' : ℕ) (slots slots' : List Name)
     → Going f xs span i count room old slots → count' ≡ count → room' ≡ room → slots' ≡ slots → Going f xs span i count' room' old slots'

@@ -44,34 +44,34 @@ abbrev LowNote : Note → Type 0
 LowNote (Own x) = x.address < top
 LowNote (Arrival a) = a < top
 
-each-low : (f : ℕ → List Name) (room d : ℕ) → d ≤ room → (xs : List Note) → AllByRecursion (Steady f room) xs → AllByRecursion LowNote (map (note_up d) xs)
+each_low : (f : ℕ → List Name) (room d : ℕ) → d ≤ room → (xs : List Note) → AllByRecursion (Steady f room) xs → AllByRecursion LowNote (map (note_up d) xs)
     → (x : Name) → holds (each f (map (note_up d) xs)) x ≡ true → x.address < top
-each-low f room d h [] s l x e = let y : ◌≡◌ {A = Bool} false true = e in let z : ◌≡◌ {A = ℕ} 0 1 = cc in absurd (omega arith)
-each-low f room d h (Own y ∷ xs) s l x e =
+each_low f room d h [] s l x e = let y : ◌≡◌ {A = Bool} false true = e in let z : ◌≡◌ {A = ℕ} 0 1 = cc in absurd (omega arith)
+each_low f room d h (Own y ∷ xs) s l x e =
     elim (or_cases (same_name (raised d y) x) (holds (each f (map (note_up d) xs)) x) e) [
       | inl u ↦ subst (λ n. n < top) (eqb-true (y.address + d) x.address (and_parts (eqb y.component x.component) (eqb (y.address + d) x.address) u).1) l.0
-      | inr u ↦ each-low f room d h xs s.1 l.1 x u
+      | inr u ↦ each_low f room d h xs s.1 l.1 x u
     ]
-each-low f room d h (Arrival a ∷ xs) s l x e =
+each_low f room d h (Arrival a ∷ xs) s l x e =
     elim (or_cases (holds (f (a + d)) x) (holds (each f (map (note_up d) xs)) x) (sym (holds-append x (f (a + d)) (each f (map (note_up d) xs))) ∙ e)) [
       | inl u ↦ s.0.none_past d (omega arith) x u
-      | inr u ↦ each-low f room d h xs s.1 l.1 x u
+      | inr u ↦ each_low f room d h xs s.1 l.1 x u
     ]
 
-noted-low : (k : Kept) (met : List Spot) → AllByRecursion (λ s. at s < top) met → AllByRecursion LowNote (noted k met)
-noted-low k [] h = tt
-noted-low k (node n a ∷ met) h =
+noted_low : (k : Kept) (met : List Spot) → AllByRecursion (λ s. at s < top) met → AllByRecursion LowNote (noted k met)
+noted_low k [] h = tt
+noted_low k (node n a ∷ met) h =
     elim (accepting k.accepts n a) as (λ v. AllByRecursion LowNote (cond v (Own (own k n a) ∷ noted k met) (noted k met)))
-    [ true ↦ (h.0, noted-low k met h.1) | false ↦ noted-low k met h.1 ]
-noted-low k (below a ∷ met) h = (h.0, noted-low k met h.1)
+    [ true ↦ (h.0, noted_low k met h.1) | false ↦ noted_low k met h.1 ]
+noted_low k (below a ∷ met) h = (h.0, noted_low k met h.1)
 
 -- a walk from below the top stays below it
-all-low : (met : List Spot) → ((s : Spot) → Among s met → at s < top) → AllByRecursion (λ s. at s < top) met
-all-low [] h = tt
-all-low (s ∷ met) h = (h s here, all-low met (λ t i. h t (later i)))
+all_low : (met : List Spot) → ((s : Spot) → Among s met → at s < top) → AllByRecursion (λ s. at s < top) met
+all_low [] h = tt
+all_low (s ∷ met) h = (h s here, all_low met (λ t i. h t (later i)))
 
-trace-low : (k : Kept) → Formed k → (n a : ℕ) → a < top → (met : List Spot) → trace k 64 (node n a ∷ []) ≡ some met → AllByRecursion (λ s. at s < top) met
-trace-low k f n a l met e = all-low met (walk_low k f n a l (sound k 64 (node n a ∷ []) met e).0)
+trace_low : (k : Kept) → Formed k → (n a : ℕ) → a < top → (met : List Spot) → trace k 64 (node n a ∷ []) ≡ some met → AllByRecursion (λ s. at s < top) met
+trace_low k f n a l met e = all_low met (walk_low k f n a l (sound k 64 (node n a ∷ []) met e).0)
 
 -- a sound net grants every walk
 granted : (t : Inner) (n a : ℕ) → n < 32 → a < top → trace t.keeps 64 (node n a ∷ []) ≡ none → ⊥
@@ -92,8 +92,8 @@ refused : (t : Inner) (n a : ℕ) (e : Fault) → a < top → NotWalked t.keeps 
 refused t n a e h w = refused_go t n a e h w (ltb n 32) refl
 
 module _ (t : Inner) (m : Model) (n a : ℕ) (items : List Note) (span : ℕ) (w : Walked t.keeps n a items span) where
-  at-node-is : found t.keeps (lists m) n a ≡ each (lists m) items
-  at-node-is = ap (walked t.keeps (lists m)) w.found ∙ gathered-each t.keeps (lists m) w.met ∙ ap (each (lists m)) (sym w.listed)
+  at_node_is : found t.keeps (lists m) n a ≡ each (lists m) items
+  at_node_is = ap (walked t.keeps (lists m)) w.found ∙ gathered-each t.keeps (lists m) w.met ∙ ap (each (lists m)) (sym w.listed)
 
   at_node_up : (d : ℕ) → d ≤ span → found t.keeps (lists m) n (a + d) ≡ each (lists m) (map (note_up d) items)
   at_node_up d h =
@@ -103,7 +103,7 @@ module _ (t : Inner) (m : Model) (n a : ℕ) (items : List Note) (span : ℕ) (w
   low_up : (d : ℕ) → d ≤ span → AllByRecursion LowNote (map (note_up d) items)
   low_up d h =
       let l = w.last in
-      subst (AllByRecursion LowNote) (w.noted_alike d h ∙ ap (map (note_up d)) (sym w.listed)) (noted-low t.keeps (map (lifted d) w.met) (trace-low t.keeps t.formed_so n (a + d) (omega arith) (map (lifted d) w.met) (w.alike d h)))
+      subst (AllByRecursion LowNote) (w.noted_alike d h ∙ ap (map (note_up d)) (sym w.listed)) (noted_low t.keeps (map (lifted d) w.met) (trace_low t.keeps t.formed_so n (a + d) (omega arith) (map (lifted d) w.met) (w.alike d h)))
 
   reaches : (count room size : ℕ) → Gathered (lists m) items span count room size → Reach (found t.keeps (lists m) n) a (a + room)
   reaches count room size g =
@@ -112,21 +112,21 @@ module _ (t : Inner) (m : Model) (n a : ℕ) (items : List Note) (span : ℕ) (w
       record {
         least = omega arith;
         most = omega (arith, l, s);
-        raises = λ d h. at_node_up d (omega arith) ∙ each-raised (lists m) room d (omega arith) items g.steady ∙ ap (raise d) (sym at-node-is);
-        none_past = λ d h x e. each-low (lists m) room d (omega arith) items g.steady (low_up d (omega arith)) x (ap (λ l. holds l x) (sym (at_node_up d (omega arith))) ∙ e);
+        raises = λ d h. at_node_up d (omega arith) ∙ each-raised (lists m) room d (omega arith) items g.steady ∙ ap (raise d) (sym at_node_is);
+        none_past = λ d h x e. each_low (lists m) room d (omega arith) items g.steady (low_up d (omega arith)) x (ap (λ l. holds l x) (sym (at_node_up d (omega arith))) ∙ e);
       }
 
   pub resolved_ok : (count room size : ℕ) → Gathered (lists m) items span count room size → Resolved t.keeps m n a size (Ok (count, a + room))
-  resolved_ok count room size g = (w.known, g.counts ∙ ap length (sym at-node-is), g.fits, reaches count room size g)
+  resolved_ok count room size g = (w.known, g.counts ∙ ap length (sym at_node_is), g.fits, reaches count room size g)
 
   pub resolved_short : (e : Fault) (size : ℕ) → (told e ≡ plain 9) × (size < length (each (lists m) items)) → Resolved t.keeps m n a size (Err e)
-  resolved_short e size p = (p.0 ∙ in_range n (plain 9) (plain 1) w.known, λ _. subst (λ l. size < length l) (sym at-node-is) p.1)
+  resolved_short e size p = (p.0 ∙ in_range n (plain 9) (plain 1) w.known, λ _. subst (λ l. size < length l) (sym at_node_is) p.1)
 
   pub resolved_buffer : (old after : List Name) → after ≡ filled (each (lists m) items) old → after ≡ resolved_slots t.keeps m n a old
-  resolved_buffer old after e = e ∙ ap (λ l. filled l old) (sym at-node-is) ∙ in_range n (filled (found t.keeps (lists m) n a) old) old w.known
+  resolved_buffer old after e = e ∙ ap (λ l. filled l old) (sym at_node_is) ∙ in_range n (filled (found t.keeps (lists m) n a) old) old w.known
 
   pub met_at : (b : Bool) (x : Name) → n ≡ t.keeps.entry → b ≡ holds (each (lists m) items) x → b ≡ holds (found t.keeps (lists m) t.keeps.entry a) x
-  met_at b x e h = h ∙ ap (λ l. holds l x) (sym at-node-is) ∙ ap (λ y. holds (found t.keeps (lists m) y a) x) e
+  met_at b x e h = h ∙ ap (λ l. holds l x) (sym at_node_is) ∙ ap (λ y. holds (found t.keeps (lists m) y a) x) e
 
 pub walked_slice : (k : Kept) (n a span : ℕ) (items all : List Note) → items ≡ all → Walked k n a all span → Walked k n a items span
 walked_slice k n a span items all e w = subst (λ l. Walked k n a l span) (sym e) w

@@ -14,15 +14,15 @@ holds-append n [] ys = refl
 holds-append n (x ∷ xs) ys = ap (λ b. same_name x n || b) (holds-append n xs ys) ∙ sym (or_assoc (same_name x n) (holds xs n) (holds ys n))
 
 module _ (f : ℕ → List Name) (xs : List Note) (n : Name) (i : ℕ) (inv : holds (each f xs) n ≡ holds (each f (drop i xs)) n) where
-  pub met-none : length xs ≤ i → false ≡ holds (each f xs) n
-  met-none h = sym (inv ∙ ap (λ l. holds (each f l) n) (drop_all i xs h))
+  pub met_none : length xs ≤ i → false ≡ holds (each f xs) n
+  met_none h = sym (inv ∙ ap (λ l. holds (each f l) n) (drop_all i xs h))
 
   module _ (d x : Note) (at : i < length xs) (is : get_or xs i d ≡ x) where
     opened : holds (each f xs) n ≡ holds (each f (x ∷ drop (i + 1) xs)) n
     opened = inv ∙ ap (λ l. holds (each f l) n) (drop_more xs i d at ∙ ap (λ y. y ∷ drop (i + 1) xs) is)
 
-    pub own-met : (y : Name) → x ≡ Own y → y.component ≡ n.component → y.address ≡ n.address → true ≡ holds (each f xs) n
-    own-met y e a b =
+    pub own_met : (y : Name) → x ≡ Own y → y.component ≡ n.component → y.address ≡ n.address → true ≡ holds (each f xs) n
+    own_met y e a b =
         sym (opened ∙ ap (λ z. holds (each f (z ∷ drop (i + 1) xs)) n) e
         ∙ or_left (same_name y n) (holds (each f (drop (i + 1) xs)) n) (and_from _ _ (eq-eqb y.component n.component a) (eq-eqb y.address n.address b)))
 
@@ -41,5 +41,5 @@ module _ (f : ℕ → List Name) (xs : List Note) (n : Name) (i : ℕ) (inv : ho
 pub other_component : (y n : Name) → (y.component ≡ n.component → ⊥) → same_name y n ≡ false
 other_component y n h = and_left _ _ (ne_eqb y.component n.component h)
 
-pub other-address : (y n : Name) → (y.address ≡ n.address → ⊥) → same_name y n ≡ false
-other-address y n h = and_right _ _ (ne_eqb y.address n.address h)
+pub other_address : (y n : Name) → (y.address ≡ n.address → ⊥) → same_name y n ≡ false
+other_address y n h = and_right _ _ (ne_eqb y.address n.address h)

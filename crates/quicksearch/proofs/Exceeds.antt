@@ -9,14 +9,14 @@ use Rattle.walks.specs.Spans.{lifted}
 use Rattle.quicksearch.specs.Exceeding.{exceeds, Within, FirstIn}
 
 module _ (k : Kept) where
-  pub exceeds-more : (i j : ℕ) (xs : List Spot) → i ≤ j → exceeds k i xs ≡ false → exceeds k j xs ≡ false
-  exceeds-more i j [] h e = refl
-  exceeds-more zero j (x ∷ xs) h e = absurd (true≢false e)
-  exceeds-more (suc i) zero (x ∷ xs) h e = absurd (omega arith)
-  exceeds-more (suc i) (suc j) (x ∷ xs) h e = exceeds-more i j (onward k x ++ xs) (omega arith) e
+  pub exceeds_more : (i j : ℕ) (xs : List Spot) → i ≤ j → exceeds k i xs ≡ false → exceeds k j xs ≡ false
+  exceeds_more i j [] h e = refl
+  exceeds_more zero j (x ∷ xs) h e = absurd (true≢false e)
+  exceeds_more (suc i) zero (x ∷ xs) h e = absurd (omega arith)
+  exceeds_more (suc i) (suc j) (x ∷ xs) h e = exceeds_more i j (onward k x ++ xs) (omega arith) e
 
   pub exceeds_add : (i j : ℕ) (xs ys : List Spot) → exceeds k i xs ≡ false → exceeds k j ys ≡ false → exceeds k (i + j) (xs ++ ys) ≡ false
-  exceeds_add i j [] ys e f = exceeds-more j (i + j) ys (omega arith) f
+  exceeds_add i j [] ys e f = exceeds_more j (i + j) ys (omega arith) f
   exceeds_add zero j (x ∷ xs) ys e f = absurd (true≢false e)
   exceeds_add (suc i) j (x ∷ xs) ys e f =
       let s : suc i + j ≡ suc (i + j) = omega arith in
@@ -46,8 +46,8 @@ module _ (k : Kept) where
       go true false e f = sym e ∙ swapped n ys xs f
       go false true e f = sym (sym f ∙ swapped n xs ys e)
 
-  pub first-swap : (n : ℕ) (xs ys : List Spot) (extent : ℕ) (o : Option ℕ) → FirstIn k n (xs ++ ys) extent o → FirstIn k n (ys ++ xs) extent o
-  first-swap n xs ys extent o w = go o w
+  pub first_swap : (n : ℕ) (xs ys : List Spot) (extent : ℕ) (o : Option ℕ) → FirstIn k n (xs ++ ys) extent o → FirstIn k n (ys ++ xs) extent o
+  first_swap n xs ys extent o w = go o w
     where
       up : (d : ℕ) → exceeds k n (map (lifted d) (ys ++ xs)) ≡ exceeds k n (map (lifted d) (xs ++ ys))
       up d = ap (exceeds k n) (map-append (lifted d) ys xs) ∙ exceeds-swap n (map (lifted d) ys) (map (lifted d) xs) ∙ ap (exceeds k n) (sym (map-append (lifted d) xs ys))
@@ -57,20 +57,20 @@ module _ (k : Kept) where
       go (Some y) w = (w.0, up y ∙ w.1, λ d j. up d ∙ w.2 d j)
 
   -- more spots than are allowed
-  exceeds-long : (n : ℕ) (xs : List Spot) → n < length xs → exceeds k n xs ≡ true
-  exceeds-long n [] h = absurd (omega arith)
-  exceeds-long zero (x ∷ xs) h = refl
-  exceeds-long (suc n) (x ∷ xs) h = exceeds-long n (onward k x ++ xs) (omega (arith, length-append (onward k x) xs))
+  exceeds_long : (n : ℕ) (xs : List Spot) → n < length xs → exceeds k n xs ≡ true
+  exceeds_long n [] h = absurd (omega arith)
+  exceeds_long zero (x ∷ xs) h = refl
+  exceeds_long (suc n) (x ∷ xs) h = exceeds_long n (onward k x ++ xs) (omega (arith, length-append (onward k x) xs))
 
-  pub first-long : (n : ℕ) (xs : List Spot) (extent : ℕ) → n < length xs → FirstIn k n xs extent (Some 0)
-  first-long n xs extent h = (omega arith, exceeds-long n (map (lifted 0) xs) (omega (arith, length-map xs (lifted 0))), λ d i. absurd (omega arith))
+  pub first_long : (n : ℕ) (xs : List Spot) (extent : ℕ) → n < length xs → FirstIn k n xs extent (Some 0)
+  first_long n xs extent h = (omega arith, exceeds_long n (map (lifted 0) xs) (omega (arith, length-map xs (lifted 0))), λ d i. absurd (omega arith))
 
   pub within_none : (n extent : ℕ) (xs : List Spot) → length xs ≡ 0 → Within k n xs extent
   within_none n extent [] h = λ d i. refl
   within_none n extent (x ∷ xs) h = absurd (omega arith)
 
-  pub within-less : (m n r extent : ℕ) (xs : List Spot) → m ≤ n → r ≤ extent → Within k m xs extent → Within k n xs r
-  within-less m n r extent xs h l w d i = exceeds-more m n (map (lifted d) xs) h (w d (omega arith))
+  pub within_less : (m n r extent : ℕ) (xs : List Spot) → m ≤ n → r ≤ extent → Within k m xs extent → Within k n xs r
+  within_less m n r extent xs h l w d i = exceeds_more m n (map (lifted d) xs) h (w d (omega arith))
 
   -- the walks exceed what is allowed exactly where there is no trace of them
   finite-joined : (s : Spot) (o : Maybe (List Spot)) → not (finite o) ≡ not (finite (joined s o))

@@ -9,7 +9,7 @@ use Rattle.quicksearch.specs.declared.memo.PassedAgenda.{PassedAgenda}
 use Rattle.quicksearch.specs.Exceeding.{Within}
 use Rattle.quicksearch.specs.Agendas.{placed, spots}
 use Rattle.quicksearch.specs.Remembered.{Holds, Bounds, Passes}
-use Rattle.quicksearch.proofs.Exceeds.{within-less}
+use Rattle.quicksearch.proofs.Exceeds.{within_less}
 
 pub all_same : {X : Type 0} (P : X → Type 0) (n : ℕ) (y : X) → P y → AllByRecursion P (replicate n y)
 all_same P zero y h = tt
@@ -22,7 +22,7 @@ module _ (k : Kept) where
 
   pub passes_of : (e : PassedAgenda) (ts : List Target) (start extent budget : ℕ) → e.budget ≤ budget → extent ≤ e.extent → spots e.start (take e.count e.targets) ≡ spots start ts
       → Passes k e → Within k budget (spots start ts) extent
-  passes_of e ts start extent budget b l same w = within-less k e.budget budget extent e.extent (spots start ts) b l (subst (λ xs. Within k e.budget xs e.extent) same w)
+  passes_of e ts start extent budget b l same w = within_less k e.budget budget extent e.extent (spots start ts) b l (subst (λ xs. Within k e.budget xs e.extent) same w)
 
 -- two agendas, compared from the front
 module _ (p q : ℕ) (us vs : List Target) (i : ℕ) where
@@ -30,8 +30,8 @@ module _ (p q : ℕ) (us vs : List Target) (i : ℕ) where
   same_more d h l here rest =
       ap (spots p) (drop_more us i d h) ∙ ap (λ z. z ∷ spots p (drop (i + 1) us)) here ∙ ap (λ z. placed q (get_or vs i d) ∷ z) rest ∙ sym (ap (spots q) (drop_more vs i d l))
 
-  pub same-all : length us ≤ i → length vs ≤ i → spots p (drop i us) ≡ spots q (drop i vs)
-  same-all h l = ap (spots p) (drop_all i us h) ∙ sym (ap (spots q) (drop_all i vs l))
+  pub same_all : length us ≤ i → length vs ≤ i → spots p (drop i us) ≡ spots q (drop i vs)
+  same_all h l = ap (spots p) (drop_all i us h) ∙ sym (ap (spots q) (drop_all i vs l))
 
 pub copied : (items ts : List Target) (n : ℕ) → n ≡ length ts → take n items ≡ take n ts → take n items ≡ ts
 copied items ts n e f = f ∙ take_all n ts (omega arith)

@@ -12,8 +12,8 @@ use Rattle.quicksearch.specs.Agendas.{placed, spots, waiting, address, Room}
 pub spot-below : (d a : ℕ) → d ≡ 32 → spot d a ≡ below a
 spot-below d a e = ap (λ b. cond b (below a) (node d a)) (eq-eqb d 32 e)
 
-pub spot-node : (d a : ℕ) → (d ≡ 32 → ⊥) → spot d a ≡ node d a
-spot-node d a e = ap (λ b. cond b (below a) (node d a)) (ne_eqb d 32 e)
+pub spot_node : (d a : ℕ) → (d ≡ 32 → ⊥) → spot d a ≡ node d a
+spot_node d a e = ap (λ b. cond b (below a) (node d a)) (ne_eqb d 32 e)
 
 pub address-spot : (d a : ℕ) → address (spot d a) ≡ a
 address-spot d a = go (eqb d 32)
@@ -49,15 +49,15 @@ module _ (queue : List Target) where
   length-waiting head tail h l = let e = length-take-le tail queue l in let d = length-drop head (take tail queue) in omega arith
 
   -- the first that waits, and the others
-  pub waiting-first : (head tail : ℕ) (d : Target) → head < tail → tail ≤ length queue → waiting head tail queue ≡ get_or queue head d ∷ waiting (head + 1) tail queue
-  waiting-first head tail d h l =
+  pub waiting_first : (head tail : ℕ) (d : Target) → head < tail → tail ≤ length queue → waiting head tail queue ≡ get_or queue head d ∷ waiting (head + 1) tail queue
+  waiting_first head tail d h l =
       let e = length-take-le tail queue l in
       drop_more (take tail queue) head d (omega arith) ∙ ap (λ z. z ∷ waiting (head + 1) tail queue) (get_or-take tail queue head d h)
 
   -- the others of a queue, and what was put behind them
-  pub waiting-more : (old : List Target) (head tail end : ℕ) → head ≤ tail → tail ≤ end → tail ≤ length old → take tail queue ≡ take tail old
+  pub waiting_more : (old : List Target) (head tail end : ℕ) → head ≤ tail → tail ≤ end → tail ≤ length old → take tail queue ≡ take tail old
       → waiting head end queue ≡ waiting head tail old ++ waiting tail end queue
-  waiting-more old head tail end h l b same =
+  waiting_more old head tail end h l b same =
       let n = length-take-le tail old b in
       ap (drop head) (sym (take-append-drop tail (take end queue)) ∙ ap (λ xs. xs ++ waiting tail end queue) (take-take tail end queue l ∙ same))
       ∙ drop-append-le head (take tail old) (waiting tail end queue) (omega arith)

@@ -36,13 +36,13 @@ module _ (n a r : ℕ) where
       one_room b.destination (b.base + (a - b.lo)) xs (omega arith) u
   map_one b false e f h xs u = u
 
-  maps-room : (bs : List MapBlock) → AllByRecursion (λ b. TargetFits b.lo b.hi b.base) bs → r ≤ nearest (map_room n a) bs → Room r (mapped bs n a)
-  maps-room [] f h = tt
-  maps-room (b ∷ bs) f h = map_one b (covers b.node b.lo b.hi n a) refl f.0 (omega arith) (mapped bs n a) (maps-room bs f.1 (omega arith))
+  maps_room : (bs : List MapBlock) → AllByRecursion (λ b. TargetFits b.lo b.hi b.base) bs → r ≤ nearest (map_room n a) bs → Room r (mapped bs n a)
+  maps_room [] f h = tt
+  maps_room (b ∷ bs) f h = map_one b (covers b.node b.lo b.hi n a) refl f.0 (omega arith) (mapped bs n a) (maps_room bs f.1 (omega arith))
 
   -- the steps from an address may be raised on its stretch
   pub room-steps : (k : Kept) → AllByRecursion (λ b. TargetFits b.lo b.hi b.base) k.maps → r ≤ reach k n a → a + r < top → Room r (steps k n a)
-  room-steps k f h l = go (mapped k.maps n a) (maps-room k.maps f (omega arith)) (accepting k.accepts n a) (leb (get_or k.overlays n 33) 32)
+  room-steps k f h l = go (mapped k.maps n a) (maps_room k.maps f (omega arith)) (accepting k.accepts n a) (leb (get_or k.overlays n 33) 32)
     where
       go : (xs : List Spot) → Room r xs → (acc low : Bool) → Room r (elim xs [ [] ↦ cond acc [] (cond low (spot (get_or k.overlays n 33) a ∷ []) []) | x ∷ xs ↦ x ∷ xs ])
       go [] u true low = tt

@@ -6,8 +6,8 @@ use Rattle.walks.specs.Spans.{reach, lifted}
 use Rattle.walks.specs.Steps.{rest}
 use Rattle.walks.proofs.Stepping.{rest_0}
 use Rattle.quicksearch.specs.Exceeding.{exceeds, Within}
-use Rattle.quicksearch.proofs.Exceeds.{exceeds-more, exceeds_add}
-use Rattle.quicksearch.proofs.Stretches.{first_name, more-none}
+use Rattle.quicksearch.proofs.Exceeds.{exceeds_more, exceeds_add}
+use Rattle.quicksearch.proofs.Stretches.{first_name, more_none}
 
 module _ (k : Kept) where
   -- a sum of bounds: what bounds the spots that are left bounds all of them, with the sum
@@ -30,7 +30,7 @@ module _ (k : Kept) where
         subst (λ i. Within k i all r) z (inv 0 (subst (λ l. Within k 0 l r) (sym e) (λ d i. refl)))
 
     pub sum-within : (left : List Spot) (sum budget : ℕ) → Counts left sum → left ≡ [] → sum ≤ budget → Within k budget all r
-    sum-within left sum budget inv e h d i = exceeds-more k sum budget (map (lifted d) all) h (sum-all left sum inv e d i)
+    sum-within left sum budget inv e h d i = exceeds_more k sum budget (map (lifted d) all) h (sum-all left sum inv e d i)
 
   -- on a stretch a name meets one more than its steps
   pub bound_name : (n a j r : ℕ) → r ≤ reach k n a → Within k j (rest k n a 0) r → Within k (j + 1) (node n a ∷ []) r
@@ -41,5 +41,5 @@ module _ (k : Kept) where
   pub bound_more : (n a x r most b most' : ℕ) → most ≤ most' → b ≤ most' → ((d : ℕ) → d < x → exceeds k most (map (lifted d) (node n a ∷ [])) ≡ false) → Within k b (node n (a + x) ∷ []) r
       → (d : ℕ) → d < x + (r + 1) → exceeds k most' (map (lifted d) (node n a ∷ [])) ≡ false
   bound_more n a x r most b most' h i low w =
-      more-none k most' (node n a ∷ []) x (λ d l. exceeds-more k most most' (map (lifted d) (node n a ∷ [])) h (low d l)) r
-      (λ d l. exceeds-more k b most' (map (lifted d) (node n (a + x) ∷ [])) i (w d l))
+      more_none k most' (node n a ∷ []) x (λ d l. exceeds_more k most most' (map (lifted d) (node n a ∷ [])) h (low d l)) r
+      (λ d l. exceeds_more k b most' (map (lifted d) (node n (a + x) ∷ [])) i (w d l))

@@ -10,12 +10,12 @@ use Rattle.model.specs.Nets.{Kept, Spot}
 use Rattle.quicksearch.specs.declared.memo.Target.{Target}
 use Rattle.quicksearch.specs.Exceeding.{FirstIn}
 use Rattle.quicksearch.specs.Agendas.{placed, spots, waiting, address, Room}
-use Rattle.quicksearch.proofs.Exceeds.{first-swap}
+use Rattle.quicksearch.proofs.Exceeds.{first_swap}
 use Rattle.quicksearch.proofs.Queues.{sliced, length-waiting}
 
-all-front : {X : Type 0} (P : X → Type 0) (xs ys : List X) → AllByRecursion P (xs ++ ys) → AllByRecursion P xs
-all-front P [] ys u = tt
-all-front P (x ∷ xs) ys u = (u.0, all-front P xs ys u.1)
+all_front : {X : Type 0} (P : X → Type 0) (xs ys : List X) → AllByRecursion P (xs ++ ys) → AllByRecursion P xs
+all_front P [] ys u = tt
+all_front P (x ∷ xs) ys u = (u.0, all_front P xs ys u.1)
 
 all_back : {X : Type 0} (P : X → Type 0) (xs ys : List X) → AllByRecursion P (xs ++ ys) → AllByRecursion P ys
 all_back P [] ys u = u
@@ -34,12 +34,12 @@ module _ (ts : List Target) (start i : ℕ) where
       let v = subst (Room extent) (sym parts) u in
       let P : Spot → Type 0 = λ s. address s + extent < top in
       subst (Room extent) (sym (map-append (placed start) (drop i ts) (take i ts)))
-      (All-append P (spots start (drop i ts)) (spots start (take i ts)) (all_back P (spots start (take i ts)) (spots start (drop i ts)) v) (all-front P (spots start (take i ts)) (spots start (drop i ts)) v))
+      (All-append P (spots start (drop i ts)) (spots start (take i ts)) (all_back P (spots start (take i ts)) (spots start (drop i ts)) v) (all_front P (spots start (take i ts)) (spots start (drop i ts)) v))
 
   pub first_turned : (k : Kept) (b extent : ℕ) (o : Option ℕ) → FirstIn k b (spots start turned) extent o → FirstIn k b (spots start ts) extent o
   first_turned k b extent o w =
       subst (λ xs. FirstIn k b xs extent o) parts
-      (first-swap k b (spots start (drop i ts)) (spots start (take i ts)) extent o (subst (λ xs. FirstIn k b xs extent o) (map-append (placed start) (drop i ts) (take i ts)) w))
+      (first_swap k b (spots start (drop i ts)) (spots start (take i ts)) extent o (subst (λ xs. FirstIn k b xs extent o) (map-append (placed start) (drop i ts) (take i ts)) w))
 
 -- a queue in which a part is replaced by as many
 module _ (queue : List Target) (head tail : ℕ) (h : head ≤ tail) (l : tail ≤ length queue) (ys : List Target) (e : length ys ≡ tail - head) where

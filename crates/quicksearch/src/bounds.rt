@@ -1,6 +1,6 @@
 ghost use Rattle.std.specs.Prelude.{◌≡◌, ◌+◌, ◌<◌, ◌≤◌, true, IfSome};
 ghost use Rattle.model.specs.Names.{top};
-ghost use Rattle.model.specs.Nets.{Kept, spot, node as at-node};
+ghost use Rattle.model.specs.Nets.{Kept, spot, node as at_node};
 ghost use Rattle.blocks.specs.Shape.{kept};
 ghost use Rattle.walks.specs.Spans.{reach};
 ghost use Rattle.quicksearch.specs.Exceeding.{Within};
@@ -23,7 +23,7 @@ fn place(node: u8, address: u64, extent: u64) -> usize
 
 // The bound of a range, if it is remembered.
 fn known(memo: &Memo, node: u8, address: u64, extent: u64) -> Option<u8>
-    ensures { IfSome result (λ b. (k : Kept) → Reliable k memo.now → Holds k (at-node node address) extent b) }
+    ensures { IfSome result (λ b. (k : Kept) → Reliable k memo.now → Holds k (at_node node address) extent b) }
 {
     let e = memo.bounds[place(node, address, extent)];
     if e.node == node && e.address == address && e.extent == extent {
@@ -71,7 +71,7 @@ fn bound(
 fn greatest(blocks: &Blocks, memo: &mut Memo, node: u8, address: u64, extent: u64, depth: u8) -> u8
     requires under { address + extent < top }
     requires reliable { Reliable (kept blocks.now) memo.old }
-    ensures holds { Holds (kept blocks.now) (at-node node address) extent result }
+    ensures holds { Holds (kept blocks.now) (at_node node address) extent result }
     ensures reliable { Reliable (kept blocks.now) memo.new }
 {
     let mut most: u8 = 0;
@@ -96,7 +96,7 @@ fn stretch(blocks: &Blocks, memo: &mut Memo, node: u8, address: u64, extent: u64
     requires under { address + extent < top }
     requires near { extent ≤ reach (kept blocks.now) node address }
     requires reliable { Reliable (kept blocks.now) memo.old }
-    ensures holds { Holds (kept blocks.now) (at-node node address) extent result }
+    ensures holds { Holds (kept blocks.now) (at_node node address) extent result }
     ensures reliable { Reliable (kept blocks.now) memo.new }
 {
     let mut sum = 0;

@@ -38,8 +38,8 @@ enter_body n = spelled 2 0x45 ++ (spelled 2 n ++ [])
 pub enter_ends : (n : ℕ) (rest : List ℕ) → enter_line n ++ rest ≡ enter_body n ++ 10 ∷ rest
 enter_ends n rest = simp append_assoc
 
-pub enter-unbroken : (n : ℕ) → unbroken (enter_body n) ≡ true
-enter-unbroken n = unbroken-spelled 2 0x45 (spelled 2 n ++ []) ∙ unbroken-spelled 2 n []
+pub enter_unbroken : (n : ℕ) → unbroken (enter_body n) ≡ true
+enter_unbroken n = unbroken-spelled 2 0x45 (spelled 2 n ++ []) ∙ unbroken-spelled 2 n []
 
 pub enter_reads : (n : ℕ) → n < 256 → line_read Net (enter_body n) ≡ Ok (Enter n)
 enter_reads n h =
@@ -82,8 +82,8 @@ module _ (b : AcceptBlock) where
   abbrev a3 : List ℕ
   a3 = spelled 2 b.node ++ a2
 
-  pub accept-unbroken : unbroken (accept_body b) ≡ true
-  accept-unbroken = unbroken-spelled 2 0x41 a3 ∙ unbroken-spelled 2 b.node a2 ∙ unbroken-spelled 16 b.lo a1 ∙ unbroken-spelled 16 b.hi []
+  pub accept_unbroken : unbroken (accept_body b) ≡ true
+  accept_unbroken = unbroken-spelled 2 0x41 a3 ∙ unbroken-spelled 2 b.node a2 ∙ unbroken-spelled 16 b.lo a1 ∙ unbroken-spelled 16 b.hi []
 
   accept_bytes : b.node < 256 → bytes_of (accept_body b) ≡ 0x41 ∷ b.node ∷ (word_bytes b.lo ++ (word_bytes b.hi ++ []))
   accept_bytes h =

@@ -10,12 +10,12 @@ use Rattle.model.specs.Nets.{Kept, fresh}
 use Rattle.model.specs.Walks.{Bounded}
 use Rattle.model.specs.Edits.{same_accept, same_map, with_maps, with_overlays}
 use Rattle.model.proofs.Bounds.{bound_walked, walked_bound}
-use Rattle.model.proofs.Fewer.{less_bound, first-maps, some-overlays}
+use Rattle.model.proofs.Fewer.{less_bound, first_maps, some_overlays}
 use Rattle.blocks.specs.declared.stored.Accepted.{Accepted}
 use Rattle.blocks.specs.declared.stored.Mapped.{Mapped}
 use Rattle.blocks.specs.Apart.{apart}
 use Rattle.blocks.specs.Shape.{kept, accept_block, map_block}
-use Rattle.blocks.proofs.Changes.{swap-accept, swap-map}
+use Rattle.blocks.proofs.Changes.{swap_accept, swap-map}
 use Rattle.text.specs.Numbers.{spelled}
 use Rattle.frames.specs.declared.frame.Frame.TheVariants.{Accept, Map, Over, Enter}
 use Rattle.loading.specs.Texts.{lines_of}
@@ -24,12 +24,12 @@ use Rattle.loading.proofs.Lines.{no_line}
 use Rattle.writing.specs.Texts.{accept_line, map_line, lines, overlay_lines, text_of}
 use Rattle.roundtrip.specs.Storing.{GoodAccept, GoodMap, Storable}
 use Rattle.roundtrip.specs.Laws.{TablesStorable, WrittenLoads, BytesReturn}
-use Rattle.roundtrip.proofs.Framed.{enter_body, enter_ends, enter-unbroken, enter_reads, over_body, over_ends, over-unbroken, over_reads, accept_body, accept_ends, accept-unbroken, accept_reads, map_body, map_ends, map-unbroken, map_reads}
-use Rattle.roundtrip.proofs.Granted.{not-before, accept-granted, map-granted, over-granted, enter-granted, line-granted}
+use Rattle.roundtrip.proofs.Framed.{enter_body, enter_ends, enter_unbroken, enter_reads, over_body, over_ends, over-unbroken, over_reads, accept_body, accept_ends, accept_unbroken, accept_reads, map_body, map_ends, map-unbroken, map_reads}
+use Rattle.roundtrip.proofs.Granted.{not_before, accept_granted, map_granted, over_granted, enter_granted, line_granted}
 
-all-at : {X : Type 0} (P : X → Type 0) (xs : List X) (x : X) (ys : List X) → AllByRecursion P (xs ++ x ∷ ys) → P x
-all-at P [] x ys h = h.0
-all-at P (z ∷ xs) x ys h = all-at P xs x ys h.1
+all_at : {X : Type 0} (P : X → Type 0) (xs : List X) (x : X) (ys : List X) → AllByRecursion P (xs ++ x ∷ ys) → P x
+all_at P [] x ys h = h.0
+all_at P (z ∷ xs) x ys h = all_at P xs x ys h.1
 
 -- overlays that are not set yet
 none-set : (m n : ℕ) → ◌≡◌ {A = ℕ} (get_or (replicate m 33) n 33) 33
@@ -62,30 +62,30 @@ module _ (k : Kept) (s : Storable k) where
       → (i : ℕ) → loaded i (with_first_accepts seen) (lines_of (lines accept_line rest ++ cs)) ≡ goal
   accepts_on seen [] e cs goal h i = ap (λ l. loaded i (with_first_accepts l) (lines_of cs)) (sym (append-nil seen) ∙ e) ∙ h i
   accepts_on seen (b ∷ rest) e cs goal h i =
-      let g : GoodAccept b = all-at GoodAccept seen b rest (subst (λ l. AllByRecursion GoodAccept l) (sym e) s.good_accepts) in
-      let new = not-before same_accept swap-accept seen b rest (ap (apart same_accept) e ∙ s.accepts_apart) in
+      let g : GoodAccept b = all_at GoodAccept seen b rest (subst (λ l. AllByRecursion GoodAccept l) (sym e) s.good_accepts) in
+      let new = not_before same_accept swap_accept seen b rest (ap (apart same_accept) e ∙ s.accepts_apart) in
       let count = length-append seen (b ∷ rest) in
       let all = ap length e in
       let few = s.few_accepts in
       ap (λ l. loaded i (with_first_accepts seen) (lines_of l)) (append_assoc (accept_line b) (lines accept_line rest) cs ∙ accept_ends b (lines accept_line rest ++ cs))
-      ∙ line-granted i (with_first_accepts seen) (accept_body b) (lines accept_line rest ++ cs) (Accept b) (accept-unbroken b) (accept_reads b g)
-      (accept-granted (with_first_accepts seen) b g new (omega arith))
+      ∙ line_granted i (with_first_accepts seen) (accept_body b) (lines accept_line rest ++ cs) (Accept b) (accept_unbroken b) (accept_reads b g)
+      (accept_granted (with_first_accepts seen) b g new (omega arith))
       ∙ accepts_on (seen ++ b ∷ []) rest (append_assoc seen (b ∷ []) rest ∙ e) cs goal h (i + 1)
 
   maps_on : (seen rest : List MapBlock) → seen ++ rest ≡ k.maps → (cs : List ℕ) (goal : Result Kept Stop) → ((i : ℕ) → loaded i (with_first_maps k.maps) (lines_of cs) ≡ goal)
       → (i : ℕ) → loaded i (with_first_maps seen) (lines_of (lines map_line rest ++ cs)) ≡ goal
   maps_on seen [] e cs goal h i = ap (λ l. loaded i (with_first_maps l) (lines_of cs)) (sym (append-nil seen) ∙ e) ∙ h i
   maps_on seen (b ∷ rest) e cs goal h i =
-      let g : GoodMap b = all-at GoodMap seen b rest (subst (λ l. AllByRecursion GoodMap l) (sym e) s.good_maps) in
-      let new = not-before same_map swap-map seen b rest (ap (apart same_map) e ∙ s.maps_apart) in
+      let g : GoodMap b = all_at GoodMap seen b rest (subst (λ l. AllByRecursion GoodMap l) (sym e) s.good_maps) in
+      let new = not_before same_map swap-map seen b rest (ap (apart same_map) e ∙ s.maps_apart) in
       let next = append_assoc seen (b ∷ []) rest ∙ e in
       let count = length-append seen (b ∷ rest) in
       let all = ap length e in
       let few = s.few_maps in
       ap (λ l. loaded i (with_first_maps seen) (lines_of l)) (append_assoc (map_line b) (lines map_line rest) cs ∙ map_ends b (lines map_line rest ++ cs))
-      ∙ line-granted i (with_first_maps seen) (map_body b) (lines map_line rest ++ cs) (Map b) (map-unbroken b) (map_reads b g)
-      (map-granted (with_first_maps seen) b g new (omega arith)
-      (less_bound (with_first_maps (seen ++ b ∷ [])) k (first-maps k (seen ++ b ∷ []) rest (sym next)) bounded))
+      ∙ line_granted i (with_first_maps seen) (map_body b) (lines map_line rest ++ cs) (Map b) (map-unbroken b) (map_reads b g)
+      (map_granted (with_first_maps seen) b g new (omega arith)
+      (less_bound (with_first_maps (seen ++ b ∷ [])) k (first_maps k (seen ++ b ∷ []) rest (sym next)) bounded))
       ∙ maps_on (seen ++ b ∷ []) rest next cs goal h (i + 1)
 
   overlays_on : (seen rest : List ℕ) → seen ++ rest ≡ k.overlays → (i : ℕ) → loaded i (with_first_overlays seen rest) (lines_of (overlay_lines (length seen) rest)) ≡ Ok k
@@ -115,12 +115,12 @@ module _ (k : Kept) (s : Storable k) where
           let whole = s.all_nodes in
           let low = leb-true d 32 t in
           ap (λ l. loaded i (with_first_overlays seen (d ∷ rest)) (lines_of l)) (over_ends (length seen) d (overlay_lines (length seen + 1) rest))
-          ∙ line-granted i (with_first_overlays seen (d ∷ rest)) (over_body (length seen) d) (overlay_lines (length seen + 1) rest) (Over (length seen) d)
+          ∙ line_granted i (with_first_overlays seen (d ∷ rest)) (over_body (length seen) d) (overlay_lines (length seen + 1) rest) (Over (length seen) d)
           (over-unbroken (length seen) d) (over_reads (length seen) d (omega arith) (omega arith))
-          (over-granted (with_first_overlays seen (d ∷ rest)) (length seen) d (omega arith) low
+          (over_granted (with_first_overlays seen (d ∷ rest)) (length seen) d (omega arith) low
           (subst (λ l. Bounded (with_overlays k l)) (sym put)
           (less_bound (with_first_overlays (seen ++ d ∷ []) rest) k
-          (some-overlays k ((seen ++ d ∷ []) ++ replicate (length rest) 33)
+          (some_overlays k ((seen ++ d ∷ []) ++ replicate (length rest) 33)
           (λ n. subst (λ l. (get_or ((seen ++ d ∷ []) ++ replicate (length rest) 33) n 33 ≡ get_or l n 33) ⊎ (get_or ((seen ++ d ∷ []) ++ replicate (length rest) 33) n 33 ≡ 33)) next
           (some-set (seen ++ d ∷ []) rest (length rest) n))) bounded)))
           ∙ ap (λ l. loaded (i + 1) (with_overlays k l) (lines_of (overlay_lines (length seen + 1) rest))) put
@@ -139,8 +139,8 @@ module _ (k : Kept) (s : Storable k) where
       let after-accepts = lines map_line k.maps ++ after-maps in
       let after-enter = lines accept_line k.accepts ++ after-accepts in
       ap (λ l. loaded 1 (fresh k.group) (lines_of l)) (enter_ends k.entry after-enter)
-      ∙ line-granted 1 (fresh k.group) (enter_body k.entry) after-enter (Enter k.entry) (enter-unbroken k.entry) (enter_reads k.entry (omega arith))
-      (enter-granted (fresh k.group) k.entry h)
+      ∙ line_granted 1 (fresh k.group) (enter_body k.entry) after-enter (Enter k.entry) (enter_unbroken k.entry) (enter_reads k.entry (omega arith))
+      (enter_granted (fresh k.group) k.entry h)
       ∙ accepts_on [] k.accepts refl after-accepts (Ok k)
       (λ i. maps_on [] k.maps refl after-maps (Ok k)
       (λ j. subst (λ m. loaded j (with_overlays k (replicate m 33)) (lines_of after-maps) ≡ Ok k) s.all_nodes (overlays_on [] k.overlays refl j)) i) 2

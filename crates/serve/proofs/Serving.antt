@@ -20,7 +20,7 @@ use Rattle.flatten.specs.Flattening.{FlattenAnswer}
 use Rattle.serve.specs.declared.call.Call.{Call}
 use Rattle.serve.specs.declared.call.Call.TheVariants.{Look as look, Flatten as flatten}
 use Rattle.serve.specs.declared.call.Answer.{Answer}
-use Rattle.serve.specs.declared.call.Answer.TheVariants.{Looked as looked-with, Flattened as flattened-with}
+use Rattle.serve.specs.declared.call.Answer.TheVariants.{Looked as looked_with, Flattened as flattened_with}
 use Rattle.serve.specs.Reference.{named, recorded, denied, reference, to_look, to_flatten, asked_of, looked, flattened}
 use Rattle.serve.specs.Served.{LookRight, FlattenRight, Right, Served, answered}
 
@@ -63,7 +63,7 @@ module _ {E : Type 0} (meaning : E → Edit) (m : Model) where
   pub right_look : Sound m → (call : Call E) (a : ℕ) (slots : Vec Name Global) (r : Result (record { 0 : ℕ; 1 : ℕ }) Fault) (s last : List Name)
       → call ≡ look a slots → s ≡ vec_items slots → length s ≡ vec_len slots → length last ≡ length s
       → LookAnswer (lists m) a (length s) r → last ≡ filled (lists m a) s
-      → Right meaning m call (looked-with r (with_items slots last)) × (m ≡ (reference m (asked_of meaning call)).1)
+      → Right meaning m call (looked_with r (with_items slots last)) × (m ≡ (reference m (asked_of meaning call)).1)
   right_look sound call a slots r s last is s-is s_len kept told' after =
       let items : vec_items (with_items slots last) ≡ last = with_items_is slots last (kept ∙ s_len) in
       let same : looked r (vec_items (with_items slots last)) ≡ (reference m (to_look a (vec_len slots))).0 =
@@ -72,8 +72,8 @@ module _ {E : Type 0} (meaning : E → Edit) (m : Model) where
         subst (λ (ys : List Name). LookRight m a r ys) (sym items) (look_right m a s last after sound r told'),
         items ∙ after ∙ ap (filled (lists m a)) s-is,
       ) in
-      let whole : Right meaning m (look a slots) (looked-with r (with_items slots last)) = record { same = same; shows = shows } in (
-        subst (λ (c : Call E). Right meaning m c (looked-with r (with_items slots last))) (sym is) whole,
+      let whole : Right meaning m (look a slots) (looked_with r (with_items slots last)) = record { same = same; shows = shows } in (
+        subst (λ (c : Call E). Right meaning m c (looked_with r (with_items slots last))) (sym is) whole,
         sym (ap (λ c. (reference m (asked_of meaning c)).1) is),
       )
 
@@ -82,7 +82,7 @@ module _ {E : Type 0} (meaning : E → Edit) (m : Model) where
       → s ≡ vec_items scratch → length s ≡ vec_len scratch → length s' ≡ length s
       → t ≡ vec_items table → length t ≡ vec_len table → length t' ≡ length t
       → FlattenAnswer (lists m) (length s) t r t' → s' ≡ zeroed s
-      → Right meaning m call (flattened-with r (with_items scratch s') (with_items table t')) × (m ≡ (reference m (asked_of meaning call)).1)
+      → Right meaning m call (flattened_with r (with_items scratch s') (with_items table t')) × (m ≡ (reference m (asked_of meaning call)).1)
   right_flatten call scratch table r s s' t t' is s-is s_len s-kept t-is t-len t-kept answer wiped =
       let s-items : vec_items (with_items scratch s') ≡ s' = with_items_is scratch s' (s-kept ∙ s_len) in
       let t-items : vec_items (with_items table t') ≡ t' = with_items_is table t' (t-kept ∙ t-len) in
@@ -91,8 +91,8 @@ module _ {E : Type 0} (meaning : E → Edit) (m : Model) where
       let plain-right : FlattenRight m r (vec_items table) t' = subst (λ (ys : List Record). FlattenRight m r ys t') t-is (flatten_right m (length s) t t' t-kept r answer) in
       let shows : FlattenRight m r (vec_items table) (vec_items (with_items table t')) × (vec_items (with_items scratch s') ≡ zeroed (vec_items scratch)) =
       (subst (λ (ys : List Record). FlattenRight m r (vec_items table) ys) (sym t-items) plain-right, s-items ∙ wiped ∙ ap zeroed s-is) in
-      let whole : Right meaning m (flatten scratch table) (flattened-with r (with_items scratch s') (with_items table t')) = record { same = same; shows = shows } in (
-        subst (λ (c : Call E). Right meaning m c (flattened-with r (with_items scratch s') (with_items table t'))) (sym is) whole,
+      let whole : Right meaning m (flatten scratch table) (flattened_with r (with_items scratch s') (with_items table t')) = record { same = same; shows = shows } in (
+        subst (λ (c : Call E). Right meaning m c (flattened_with r (with_items scratch s') (with_items table t'))) (sym is) whole,
         sym (ap (λ c. (reference m (asked_of meaning c)).1) is),
       )
 

@@ -12,7 +12,7 @@ use Rattle.flatten.specs.Runs.{Flattened}
 use Rattle.serve.specs.declared.call.Call.{Call}
 use Rattle.serve.specs.declared.call.Call.TheVariants.{Edit as edit, Look as look, Flatten as flatten}
 use Rattle.serve.specs.declared.call.Answer.{Answer}
-use Rattle.serve.specs.declared.call.Answer.TheVariants.{Edited as edited-with, Looked as looked-with, Flattened as flattened-with}
+use Rattle.serve.specs.declared.call.Answer.TheVariants.{Edited as edited_with, Looked as looked_with, Flattened as flattened_with}
 use Rattle.serve.specs.Reference.{asked_of, heard, reference}
 
 -- a granted look: the names in the slots are exactly those that decode steps reach and that a node or the bottom accepts, as the renamings give them; and the reach is lawful
@@ -27,15 +27,15 @@ FlattenRight m (Err f) table after = after ≡ table
 
 -- what an answer shows beside being the reference model's, and what it leaves in each buffer
 abbrev pub Shows : {E : Type 0} → Model → Call E → Answer → Type 0
-Shows m (edit e) (edited-with r) = Unit {0}
-Shows m (edit e) (looked-with r slots) = ⊥
-Shows m (edit e) (flattened-with r scratch table) = ⊥
-Shows m (look a slots) (edited-with r) = ⊥
-Shows m (look a slots) (looked-with r after) = LookRight m a r (vec_items after) × (vec_items after ≡ filled (lists m a) (vec_items slots))
-Shows m (look a slots) (flattened-with r scratch table) = ⊥
-Shows m (flatten scratch table) (edited-with r) = ⊥
-Shows m (flatten scratch table) (looked-with r slots) = ⊥
-Shows m (flatten scratch table) (flattened-with r s t) = FlattenRight m r (vec_items table) (vec_items t) × (vec_items s ≡ zeroed (vec_items scratch))
+Shows m (edit e) (edited_with r) = Unit {0}
+Shows m (edit e) (looked_with r slots) = ⊥
+Shows m (edit e) (flattened_with r scratch table) = ⊥
+Shows m (look a slots) (edited_with r) = ⊥
+Shows m (look a slots) (looked_with r after) = LookRight m a r (vec_items after) × (vec_items after ≡ filled (lists m a) (vec_items slots))
+Shows m (look a slots) (flattened_with r scratch table) = ⊥
+Shows m (flatten scratch table) (edited_with r) = ⊥
+Shows m (flatten scratch table) (looked_with r slots) = ⊥
+Shows m (flatten scratch table) (flattened_with r s t) = FlattenRight m r (vec_items table) (vec_items t) × (vec_items s ≡ zeroed (vec_items scratch))
 
 -- an answer is the reference model's to the same call, and shows what it should
 pub record Right {E : Type 0} (meaning : E → Edit) (m : Model) (c : Call E) (r : Answer) : Type 0 where

@@ -30,11 +30,11 @@ then_eq Less b = refl
 then_eq Equal b = refl
 then_eq Greater b = refl
 
-pub lex-flips : (xs ys : List ℕ) → lex xs ys ≡ ordering_reverse (lex ys xs)
-lex-flips [] [] = refl
-lex-flips [] (y ∷ ys) = refl
-lex-flips (x ∷ xs) [] = refl
-lex-flips (x ∷ xs) (y ∷ ys) = (λ i. ordering_then (nat_cmp_total.antisymm x y i) (lex-flips xs ys i)) ∙ then_turned (nat_cmp y x) (lex ys xs)
+pub lex_flips : (xs ys : List ℕ) → lex xs ys ≡ ordering_reverse (lex ys xs)
+lex_flips [] [] = refl
+lex_flips [] (y ∷ ys) = refl
+lex_flips (x ∷ xs) [] = refl
+lex_flips (x ∷ xs) (y ∷ ys) = (λ i. ordering_then (nat_cmp_total.antisymm x y i) (lex_flips xs ys i)) ∙ then_turned (nat_cmp y x) (lex ys xs)
 
 lex-steps : (x y z : ℕ) (a b c : Ordering) (k m : Ordering) → nat_cmp x y ≡ k → nat_cmp y z ≡ m → (a ≡ Less → b ≡ Less → c ≡ Less) → ordering_then k a ≡ Less → ordering_then m b ≡ Less → ordering_then (nat_cmp x z) c ≡ Less
 lex-steps x y z a b c Less Less p q t h g = ap (λ k. ordering_then k c) (nat_cmp_total.trans x y z p q)
@@ -45,13 +45,13 @@ lex-steps x y z a b c Equal Equal p q t h g = ap (λ k. ordering_then k c) (nat_
 lex-steps x y z a b c Equal Greater p q t h g = absurd (true≢false (ap is_gt g))
 lex-steps x y z a b c Greater m p q t h g = absurd (true≢false (ap is_gt h))
 
-pub lex-rises : (xs ys zs : List ℕ) → lex xs ys ≡ Less → lex ys zs ≡ Less → lex xs zs ≡ Less
-lex-rises [] [] zs h k = k
-lex-rises [] (y ∷ ys) [] h k = absurd (true≢false (ap is_gt k))
-lex-rises [] (y ∷ ys) (z ∷ zs) h k = refl
-lex-rises (x ∷ xs) [] zs h k = absurd (true≢false (ap is_gt h))
-lex-rises (x ∷ xs) (y ∷ ys) [] h k = k
-lex-rises (x ∷ xs) (y ∷ ys) (z ∷ zs) h k = lex-steps x y z (lex xs ys) (lex ys zs) (lex xs zs) (nat_cmp x y) (nat_cmp y z) refl refl (lex-rises xs ys zs) h k
+pub lex_rises : (xs ys zs : List ℕ) → lex xs ys ≡ Less → lex ys zs ≡ Less → lex xs zs ≡ Less
+lex_rises [] [] zs h k = k
+lex_rises [] (y ∷ ys) [] h k = absurd (true≢false (ap is_gt k))
+lex_rises [] (y ∷ ys) (z ∷ zs) h k = refl
+lex_rises (x ∷ xs) [] zs h k = absurd (true≢false (ap is_gt h))
+lex_rises (x ∷ xs) (y ∷ ys) [] h k = k
+lex_rises (x ∷ xs) (y ∷ ys) (z ∷ zs) h k = lex-steps x y z (lex xs ys) (lex ys zs) (lex xs zs) (nat_cmp x y) (nat_cmp y z) refl refl (lex_rises xs ys zs) h k
 
 -- the test of the fields, joined from the right
 abbrev pub alike_next : ℕ → List ℕ → ℕ → List ℕ → Bool
@@ -72,11 +72,11 @@ next_agrees x [] y (z ∷ zs) = then_eq (nat_cmp x y) Less ∙ and-false (is_eq 
 next_agrees x (w ∷ ws) y [] = then_eq (nat_cmp x y) Greater ∙ and-false (is_eq (nat_cmp x y))
 next_agrees x (w ∷ ws) y (z ∷ zs) = then_eq (nat_cmp x y) (lex (w ∷ ws) (z ∷ zs)) ∙ (λ i. unsigned_tied x y i && next_agrees w ws z zs i)
 
-pub lex-agrees : (xs ys : List ℕ) → is_eq (lex xs ys) ≡ alike xs ys
-lex-agrees [] [] = refl
-lex-agrees [] (y ∷ ys) = refl
-lex-agrees (x ∷ xs) [] = refl
-lex-agrees (x ∷ xs) (y ∷ ys) = next_agrees x xs y ys
+pub lex_agrees : (xs ys : List ℕ) → is_eq (lex xs ys) ≡ alike xs ys
+lex_agrees [] [] = refl
+lex_agrees [] (y ∷ ys) = refl
+lex_agrees (x ∷ xs) [] = refl
+lex_agrees (x ∷ xs) (y ∷ ys) = next_agrees x xs y ys
 
 next_equal : (x : ℕ) (xs : List ℕ) (y : ℕ) (ys : List ℕ) → alike_next x xs y ys ≡ true → ◌≡◌ {A = List ℕ} (x ∷ xs) (y ∷ ys)
 next_equal x [] y [] h = ap (λ n. n ∷ []) (eqb-true x y h)
@@ -124,8 +124,8 @@ abbrev pub by_fields : {T : Type 0} (fields : T → List ℕ) (made : List ℕ �
 by_fields fields made back = record {
   rank = λ x y. lex (fields x) (fields y);
   same = λ x y. alike (fields x) (fields y);
-  flips = λ x y. lex-flips (fields x) (fields y);
-  rises = λ x y z. lex-rises (fields x) (fields y) (fields z);
-  agrees = λ x y. lex-agrees (fields x) (fields y);
+  flips = λ x y. lex_flips (fields x) (fields y);
+  rises = λ x y z. lex_rises (fields x) (fields y) (fields z);
+  agrees = λ x y. lex_agrees (fields x) (fields y);
   whole = λ x y h. sym (back x) ∙ ap made (alike_equal (fields x) (fields y) h) ∙ back y;
 }

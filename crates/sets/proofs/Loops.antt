@@ -12,7 +12,7 @@ use Rattle.sets.specs.Orders.{Order}
 use Rattle.sets.specs.Sets.{past, squeezed, sorted, set_of, Rising}
 use Rattle.sets.proofs.Ranking.{UpTo, total, gt_turned}
 use Rattle.sets.proofs.Sorting.{Up}
-use Rattle.sets.proofs.Squeezing.{climbs, up_from_climbs, set-rises, set-some}
+use Rattle.sets.proofs.Squeezing.{climbs, up_from_climbs, set_rises, set-some}
 
 -- ---- what a comparison tells
 
@@ -21,15 +21,15 @@ equal_told Less = refl
 equal_told Equal = refl
 equal_told Greater = refl
 
-pub same-told : {A : Type 0} (o : Order A) (x y : A) (k : Ordering) (t : Bool) → k ≡ o.rank x y → t ≡ (ordering_index k == 1) → o.same x y ≡ t
-same-told o x y k t e d = sym (o.agrees x y) ∙ ap is_eq (sym e) ∙ equal_told k ∙ sym d
+pub same_told : {A : Type 0} (o : Order A) (x y : A) (k : Ordering) (t : Bool) → k ≡ o.rank x y → t ≡ (ordering_index k == 1) → o.same x y ≡ t
+same_told o x y k t e d = sym (o.agrees x y) ∙ ap is_eq (sym e) ∙ equal_told k ∙ sym d
 
 twice_not : (b : Bool) → not (not b) ≡ b
 twice_not true = refl
 twice_not false = refl
 
 pub differ_told : {A : Type 0} (o : Order A) (x y : A) (k : Ordering) (t s : Bool) → k ≡ o.rank x y → t ≡ not (ordering_index k == 1) → t ≡ s → o.same x y ≡ not s
-differ_told o x y k t s e d u = same-told o x y k (ordering_index k == 1) e refl ∙ sym (twice_not (ordering_index k == 1)) ∙ ap not (sym d ∙ u)
+differ_told o x y k t s e d u = same_told o x y k (ordering_index k == 1) e refl ∙ sym (twice_not (ordering_index k == 1)) ∙ ap not (sym d ∙ u)
 
 -- ---- a scan for an element
 
@@ -75,15 +75,15 @@ module _ {A : Type 0} (same : A → A → Bool) (before now : List A) (i used : 
       let t = get_or_read now i next inside n d in
       cc
 
-  last-is : (d : A) → get_or now (used - 1) d ≡ last
-  last-is d =
+  last_is : (d : A) → get_or now (used - 1) d ≡ last
+  last_is d =
       let k : used - 1 < length now = let w = h.within in let s = h.some in let j = inside in omega arith in
       sym (get_or_read now (used - 1) last k m d)
 
   opened : (d : A) → take used now ++ past same last (next ∷ drop (i + 1) before) ≡ squeezed same before
   opened d =
       let e : drop i before ≡ next ∷ drop (i + 1) before = drop_more before i d l ∙ ap (λ w. w ∷ drop (i + 1) before) (next_is d) in
-      sym (λ j. take used now ++ past same (last-is d j) (e j)) ∙ h.front d
+      sym (λ j. take used now ++ past same (last_is d j) (e j)) ∙ h.front d
 
   pub squeeze_skip : same last next ≡ true → Squeezing same before now (i + 1) used
   squeeze_skip e = record {
@@ -92,7 +92,7 @@ module _ {A : Type 0} (same : A → A → Bool) (before now : List A) (i used : 
     long = h.long;
     rest = h.rest;
     front = λ d.
-        ap (λ x. take used now ++ past same x (drop (i + 1) before)) (last-is d)
+        ap (λ x. take used now ++ past same x (drop (i + 1) before)) (last_is d)
         ∙ ap (λ b. take used now ++ cond b (past same last (drop (i + 1) before)) (next ∷ past same next (drop (i + 1) before))) (sym e)
         ∙ opened d;
   }
@@ -144,14 +144,14 @@ pub set-held : {A : Type 0} (o : Order A) (xs ys zs : List A) (n : ℕ) → ys �
 set-held o xs ys zs n e h = h ∙ ap (λ ws. squeezed o.same ws ++ drop n ws) e
 
 module _ {A : Type 0} (o : Order A) (xs zs : List A) (n : ℕ) (c : n ≡ length (set_of o.rank o.same xs)) (h : zs ≡ set_of o.rank o.same xs ++ drop n (sorted o.rank xs)) where
-  front-is : take n zs ≡ set_of o.rank o.same xs
-  front-is = ap (take n) h ∙ take_at (set_of o.rank o.same xs) (drop n (sorted o.rank xs)) n (sym c)
+  front_is : take n zs ≡ set_of o.rank o.same xs
+  front_is = ap (take n) h ∙ take_at (set_of o.rank o.same xs) (drop n (sorted o.rank xs)) n (sym c)
 
-  pub front-rises : Rising o.rank (take n zs)
-  front-rises = subst (λ ys. Rising o.rank ys) (sym front-is) (set-rises o xs)
+  pub front_rises : Rising o.rank (take n zs)
+  front_rises = subst (λ ys. Rising o.rank ys) (sym front_is) (set_rises o xs)
 
-  pub front-has : (x : A) → some_of (λ y. o.same y x) (take n zs) ≡ some_of (λ y. o.same y x) xs
-  front-has x = ap (some_of (λ y. o.same y x)) front-is ∙ set-some o (λ y. o.same y x) xs
+  pub front_has : (x : A) → some_of (λ y. o.same y x) (take n zs) ≡ some_of (λ y. o.same y x) xs
+  front_has x = ap (some_of (λ y. o.same y x)) front_is ∙ set-some o (λ y. o.same y x) xs
 
 -- ---- a search in a rising list
 

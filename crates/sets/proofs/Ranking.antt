@@ -11,10 +11,10 @@ own_turn Less e = absurd (true≢false (ap is_lt e))
 own_turn Equal e = refl
 own_turn Greater e = absurd (true≢false (ap is_gt e))
 
-pub less-from : (k : Ordering) → is_lt k ≡ true → k ≡ Less
-less-from Less e = refl
-less-from Equal e = absurd (false≢true e)
-less-from Greater e = absurd (false≢true e)
+pub less_from : (k : Ordering) → is_lt k ≡ true → k ≡ Less
+less_from Less e = refl
+less_from Equal e = absurd (false≢true e)
+less_from Greater e = absurd (false≢true e)
 
 pub gt_turned : (k : Ordering) → is_gt (ordering_reverse k) ≡ is_lt k
 gt_turned Less = refl
@@ -37,7 +37,7 @@ module _ {A : Type 0} (o : Order A) where
   one_holds x y = ap (λ b. one_alone (below o x y) b (above o x y)) (sym (o.agrees x y)) ∙ lone (o.rank x y)
 
   pub below_chains : (x y z : A) → below o x y ≡ true → below o y z ≡ true → below o x z ≡ true
-  below_chains x y z h k = ap is_lt (o.rises x y z (less-from (o.rank x y) h) (less-from (o.rank y z) k))
+  below_chains x y z h k = ap is_lt (o.rises x y z (less_from (o.rank x y) h) (less_from (o.rank y z) k))
 
   pub above_turns : (x y : A) → above o x y ≡ below o y x
   above_turns x y = ap is_gt (o.flips x y) ∙ gt_turned (o.rank y x)

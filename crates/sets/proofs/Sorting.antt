@@ -9,7 +9,7 @@ use Rattle.std.proofs.lemmas.List.Sorted.{sum_by-IsPermutation, sorted_far}
 use Rattle.sets.specs.Members.{some_of}
 use Rattle.sets.specs.Orders.{Order}
 use Rattle.sets.specs.Sets.{placed, sorted}
-use Rattle.sets.proofs.Ranking.{by_rank, UpTo, upto_from, upto_less, less_upto, upto_chain, less-from, same_self, apart, turned, gt_turned}
+use Rattle.sets.proofs.Ranking.{by_rank, UpTo, upto_from, upto_less, less_upto, upto_chain, less_from, same_self, apart, turned, gt_turned}
 
 -- how many elements pass a test
 abbrev pub times : {A : Type 0} → (A → Bool) → List A → ℕ
@@ -73,7 +73,7 @@ module _ {A : Type 0} (o : Order A) where
   Up (x ∷ xs) = AllByRecursion (UpTo o x) xs × Up xs
 
   placed_up : (x y : A) (ys : List A) (t : Bool) → is_lt (o.rank y x) ≡ t → AllByRecursion (UpTo o y) ys → Up ys → Up (placed o.rank x ys) → Up (cond t (y ∷ placed o.rank x ys) (x ∷ (y ∷ ys)))
-  placed_up x y ys true e h u v = (all_placed o.rank (UpTo o y) x ys (upto_less o y x (less-from (o.rank y x) e)) h, v)
+  placed_up x y ys true e h u v = (all_placed o.rank (UpTo o y) x ys (upto_less o y x (less_from (o.rank y x) e)) h, v)
   placed_up x y ys false e h u v =
       let l = upto_from o x y e in
       ((l, All-weaker (UpTo o y) (UpTo o x) (λ w k. upto_chain o x y w l k) ys h), (h, u))
@@ -94,8 +94,8 @@ module _ {A : Type 0} (o : Order A) where
       let b = none_beyond x ys h.1 in
       omega arith
 
-  some-here : (x : A) (xs : List A) → 0 < times (λ y. o.same y x) (x ∷ xs)
-  some-here x xs =
+  some_here : (x : A) (xs : List A) → 0 < times (λ y. o.same y x) (x ∷ xs)
+  some_here x xs =
       let a : ◌≡◌ {A = ℕ} (cond (o.same x x) 1 0) 1 = ap (λ b. cond b 1 0) (same_self o x) in
       omega arith
 
@@ -105,16 +105,16 @@ module _ {A : Type 0} (o : Order A) where
   -- lists that ascend and hold each element as often are equal
   pub up_unique : (xs ys : List A) → Up xs → Up ys → ((x : A) → times (λ y. o.same y x) xs ≡ times (λ y. o.same y x) ys) → xs ≡ ys
   up_unique [] [] u v h = refl
-  up_unique [] (y ∷ ys) u v h = let a = h y in let b = some-here y ys in absurd (omega arith)
-  up_unique (x ∷ xs) [] u v h = let a = h x in let b = some-here x xs in absurd (omega arith)
+  up_unique [] (y ∷ ys) u v h = let a = h y in let b = some_here y ys in absurd (omega arith)
+  up_unique (x ∷ xs) [] u v h = let a = h x in let b = some_here x xs in absurd (omega arith)
   up_unique (x ∷ xs) (y ∷ ys) u v h =
       by_rank o x y (◌≡◌ {A = List A} (x ∷ xs) (y ∷ ys))
-      (λ l. let a = h x in let b = some-here x xs in let c = none_beyond x (y ∷ ys) (beyond_all x y ys l v.0) in absurd (omega arith))
+      (λ l. let a = h x in let b = some_here x xs in let c = none_beyond x (y ∷ ys) (beyond_all x y ys l v.0) in absurd (omega arith))
       (λ e. let t : xs ≡ ys = up_unique xs ys u.1 v.1 (λ z. let a = h z in let b : ◌≡◌ {A = ℕ} (cond (o.same x z) 1 0) (cond (o.same y z) 1 0) = ap (λ w. cond (o.same w z) 1 0) e in omega arith) in cc)
-      (λ g. let a = h y in let b = some-here y ys in let c = none_beyond y (x ∷ xs) (beyond_all y x xs (turned o x y g) u.0) in absurd (omega arith))
+      (λ g. let a = h y in let b = some_here y ys in let c = none_beyond y (x ∷ xs) (beyond_all y x xs (turned o x y g) u.0) in absurd (omega arith))
 
-  pub sorted-is : (xs ys : List A) → IsPermutation xs ys → Up ys → ys ≡ sorted o.rank xs
-  sorted-is xs ys s u =
+  pub sorted_is : (xs ys : List A) → IsPermutation xs ys → Up ys → ys ≡ sorted o.rank xs
+  sorted_is xs ys s u =
       up_unique ys (sorted o.rank xs) u (up_sorted xs)
       (λ x. times_shuffled (λ y. o.same y x) xs ys s ∙ sym (times_sorted o.rank (λ y. o.same y x) xs))
 

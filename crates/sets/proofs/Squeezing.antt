@@ -7,7 +7,7 @@ use Rattle.std.proofs.lemmas.Bool.{and_parts, and_from}
 use Rattle.sets.specs.Members.{some_of}
 use Rattle.sets.specs.Orders.{Order}
 use Rattle.sets.specs.Sets.{sorted, past, squeezed, set_of, leads, rising, Rising}
-use Rattle.sets.proofs.Ranking.{by_rank, UpTo, upto_less, less_left, less-from, same_self, same_from, apart, turned}
+use Rattle.sets.proofs.Ranking.{by_rank, UpTo, upto_less, less_left, less_from, same_self, same_from, apart, turned}
 use Rattle.sets.proofs.Sorting.{Up, up_sorted, some-sorted}
 
 twice : (a b : Bool) → (a || (a || b)) ≡ (a || b)
@@ -27,20 +27,20 @@ module _ {A : Type 0} (o : Order A) where
   some-squeezed p [] = refl
   some-squeezed p (x ∷ xs) = some-past p x xs
 
-  past-rises : (x y : A) (ys : List A) (t : Bool) → o.same x y ≡ t → UpTo o x y → Rising o.rank (x ∷ past o.same x ys) → Rising o.rank (y ∷ past o.same y ys) → Rising o.rank (x ∷ cond t (past o.same x ys) (y ∷ past o.same y ys))
-  past-rises x y ys true e u h k = h
-  past-rises x y ys false e u h k = and_from (is_lt (o.rank x y)) (rising o.rank (y ∷ past o.same y ys)) (ap is_lt (less_left (o.rank x y) u (o.agrees x y ∙ e))) k
+  past_rises : (x y : A) (ys : List A) (t : Bool) → o.same x y ≡ t → UpTo o x y → Rising o.rank (x ∷ past o.same x ys) → Rising o.rank (y ∷ past o.same y ys) → Rising o.rank (x ∷ cond t (past o.same x ys) (y ∷ past o.same y ys))
+  past_rises x y ys true e u h k = h
+  past_rises x y ys false e u h k = and_from (is_lt (o.rank x y)) (rising o.rank (y ∷ past o.same y ys)) (ap is_lt (less_left (o.rank x y) u (o.agrees x y ∙ e))) k
 
-  rises-past : (x : A) (ys : List A) → AllByRecursion (UpTo o x) ys → Up o ys → Rising o.rank (x ∷ past o.same x ys)
-  rises-past x [] h u = refl
-  rises-past x (y ∷ ys) h u = past-rises x y ys (o.same x y) refl h.0 (rises-past x ys h.1 u.1) (rises-past y ys u.0 u.1)
+  rises_past : (x : A) (ys : List A) → AllByRecursion (UpTo o x) ys → Up o ys → Rising o.rank (x ∷ past o.same x ys)
+  rises_past x [] h u = refl
+  rises_past x (y ∷ ys) h u = past_rises x y ys (o.same x y) refl h.0 (rises_past x ys h.1 u.1) (rises_past y ys u.0 u.1)
 
-  pub rises-squeezed : (xs : List A) → Up o xs → Rising o.rank (squeezed o.same xs)
-  rises-squeezed [] u = refl
-  rises-squeezed (x ∷ xs) u = rises-past x xs u.0 u.1
+  pub rises_squeezed : (xs : List A) → Up o xs → Rising o.rank (squeezed o.same xs)
+  rises_squeezed [] u = refl
+  rises_squeezed (x ∷ xs) u = rises_past x xs u.0 u.1
 
-  pub set-rises : (xs : List A) → Rising o.rank (set_of o.rank o.same xs)
-  set-rises xs = rises-squeezed (sorted o.rank xs) (up_sorted o xs)
+  pub set_rises : (xs : List A) → Rising o.rank (set_of o.rank o.same xs)
+  set_rises xs = rises_squeezed (sorted o.rank xs) (up_sorted o xs)
 
   pub set-some : (p : A → Bool) (xs : List A) → some_of p (set_of o.rank o.same xs) ≡ some_of p xs
   set-some p xs = some-squeezed p (sorted o.rank xs) ∙ some-sorted o.rank p xs
@@ -53,7 +53,7 @@ module _ {A : Type 0} (o : Order A) where
   ahead : (x : A) (ys : List A) → leads o.rank x ys ≡ true → Climbs ys → AllByRecursion (λ w. o.rank x w ≡ Less) ys
   ahead x [] h k = tt
   ahead x (y ∷ ys) h k =
-      let l = less-from (o.rank x y) h in
+      let l = less_from (o.rank x y) h in
       (l, All-weaker (λ w. o.rank y w ≡ Less) (λ w. o.rank x w ≡ Less) (λ w m. o.rises x y w l m) ys k.0)
 
   pub climbs : (xs : List A) → Rising o.rank xs → Climbs xs
@@ -109,7 +109,7 @@ module _ {A : Type 0} (o : Order A) where
 
   pub set_unique : (xs ys : List A) → Rising o.rank ys → ((x : A) → has ys x ≡ has xs x) → ys ≡ set_of o.rank o.same xs
   set_unique xs ys r h =
-      climb_unique ys (set_of o.rank o.same xs) (climbs ys r) (climbs (set_of o.rank o.same xs) (set-rises xs))
+      climb_unique ys (set_of o.rank o.same xs) (climbs ys r) (climbs (set_of o.rank o.same xs) (set_rises xs))
       (λ x. h x ∙ sym (set-some (λ y. o.same y x) xs))
 
   place_climbs : (xs : List A) (i j : ℕ) (d : A) → Climbs xs → i < length xs → j < length xs → get_or xs i d ≡ get_or xs j d → i ≡ j

@@ -32,13 +32,13 @@ module _ (rs : List Record) (i : ℕ) (inv : misfit i (drop i rs) ≡ misfit 0 r
   pub misfit-past : i < length rs → (get_or rs i blank).lo ≤ (get_or rs i blank).hi → false ≡ ltb ((get_or rs i blank).base + ((get_or rs i blank).hi - (get_or rs i blank).lo)) top → some (at_place 4 i) ≡ misfit 0 rs
   misfit-past h l e = sym (at_drop_more (misfit i) rs i blank h ∙ cond-true _ _ _ (le-leb _ _ l) ∙ cond-false _ _ _ (sym e)) ∙ inv
 
-  pub misfit-more : i < length rs → (get_or rs i blank).lo ≤ (get_or rs i blank).hi → true ≡ ltb ((get_or rs i blank).base + ((get_or rs i blank).hi - (get_or rs i blank).lo)) top → misfit (i + 1) (drop (i + 1) rs) ≡ misfit 0 rs
-  misfit-more h l e =
+  pub misfit_more : i < length rs → (get_or rs i blank).lo ≤ (get_or rs i blank).hi → true ≡ ltb ((get_or rs i blank).base + ((get_or rs i blank).hi - (get_or rs i blank).lo)) top → misfit (i + 1) (drop (i + 1) rs) ≡ misfit 0 rs
+  misfit_more h l e =
       ap (λ j. misfit j (drop (i + 1) rs)) (add-one i)
       ∙ sym (at_drop_more (misfit i) rs i blank h ∙ cond-true _ _ _ (le-leb _ _ l) ∙ cond-true _ _ _ (sym e)) ∙ inv
 
-  pub misfit-done : length rs ≤ i → none ≡ misfit 0 rs
-  misfit-done h = sym (at_drop_all (misfit i) rs i h) ∙ inv
+  pub misfit_done : length rs ≤ i → none ≡ misfit 0 rs
+  misfit_done h = sym (at_drop_all (misfit i) rs i h) ∙ inv
 
 -- what a look keeps while it goes through the records: those before i are served
 pub record Gathering (a : ℕ) (rs : List Record) (before slots : List Name) (count reach i : ℕ) : Type 0 where
@@ -51,9 +51,9 @@ pub record Gathering (a : ℕ) (rs : List Record) (before slots : List Name) (co
   pub in_range : reach ≤ top - 1
   pub nearest : min reach (steady_all (drop i rs) a) ≡ steady_all rs a
 
-steady-most : (a : ℕ) (rs : List Record) → steady_all rs a ≤ top - 1
-steady-most a [] = omega arith
-steady-most a (r ∷ rs) = let h = steady-most a rs in omega arith
+steady_most : (a : ℕ) (rs : List Record) → steady_all rs a ≤ top - 1
+steady_most a [] = omega arith
+steady_most a (r ∷ rs) = let h = steady_most a rs in omega arith
 
 pub gathering_start : (a : ℕ) (rs : List Record) (before : List Name) → all_sane rs ≡ true → Gathering a rs before before 0 18446744073709551615 0
 gathering_start a rs before s = record {
@@ -64,13 +64,13 @@ gathering_start a rs before s = record {
   front = refl;
   kept = refl;
   in_range = omega arith;
-  nearest = let h = steady-most a rs in omega arith;
+  nearest = let h = steady_most a rs in omega arith;
 }
 
 -- the record at i
 module _ (rs : List Record) (i : ℕ) (h : i < length rs) where
-  pub sane-here : all_sane (drop i rs) ≡ true → (sane (get_or rs i blank) ≡ true) × (all_sane (drop (i + 1) rs) ≡ true)
-  sane-here e = and_parts (sane (get_or rs i blank)) (all_sane (drop (i + 1) rs)) (sym (at_drop_more all_sane rs i blank h) ∙ e)
+  pub sane_here : all_sane (drop i rs) ≡ true → (sane (get_or rs i blank) ≡ true) × (all_sane (drop (i + 1) rs) ≡ true)
+  sane_here e = and_parts (sane (get_or rs i blank)) (all_sane (drop (i + 1) rs)) (sym (at_drop_more all_sane rs i blank h) ∙ e)
 
   module _ (a : ℕ) where
     tabled_yes : true ≡ within (get_or rs i blank).lo (get_or rs i blank).hi a → tabled (drop i rs) a ≡ led (get_or rs i blank) a ∷ tabled (drop (i + 1) rs) a
@@ -92,7 +92,7 @@ module _ (rs : List Record) (i : ℕ) (h : i < length rs) where
           let t = g.total in
           let u = ap length s in
           record {
-            rest-sane = (sane-here g.rest-sane).1;
+            rest-sane = (sane_here g.rest-sane).1;
             size = g.size;
             inside = g.inside;
             total = omega (arith, t, u);
@@ -111,7 +111,7 @@ module _ (rs : List Record) (i : ℕ) (h : i < length rs) where
           let u : length (tabled (drop i rs) a) ≡ suc (length (tabled (drop (i + 1) rs) a)) = ap length s in
           let z = length-set slots count x in
           record {
-            rest-sane = (sane-here g.rest-sane).1;
+            rest-sane = (sane_here g.rest-sane).1;
             size = z ∙ g.size;
             inside = omega (arith, z);
             total = omega (arith, t, u);
@@ -159,9 +159,9 @@ tabled-raised (r ∷ rs) a d h = go (within r.lo r.hi a) refl (steady-within r a
     go false e f ih = cond-false _ _ _ (f ∙ e) ∙ ih
 
 -- a sane record leads to no address past the last
-pub tabled-low : (rs : List Record) (a : ℕ) → all_sane rs ≡ true → (x : Name) → holds (tabled rs a) x ≡ true → x.address < top
-tabled-low [] a s x h = absurd (false≢true h)
-tabled-low (r ∷ rs) a s x h = go (within r.lo r.hi a) refl (and_parts (sane r) (all_sane rs) s) (λ e. tabled-low rs a e x) h
+pub tabled_low : (rs : List Record) (a : ℕ) → all_sane rs ≡ true → (x : Name) → holds (tabled rs a) x ≡ true → x.address < top
+tabled_low [] a s x h = absurd (false≢true h)
+tabled_low (r ∷ rs) a s x h = go (within r.lo r.hi a) refl (and_parts (sane r) (all_sane rs) s) (λ e. tabled_low rs a e x) h
   where
     here : sane r ≡ true → within r.lo r.hi a ≡ true → same_name (led r a) x ≡ true → x.address < top
     here f e k =
@@ -189,9 +189,9 @@ steady-least a (r ∷ rs) l = go (leb r.lo a) (leb a r.hi) refl refl (steady-lea
 pub table_reach : (rs : List Record) (a : ℕ) → all_sane rs ≡ true → a < top → Reach (tabled rs) a (steady_all rs a)
 table_reach rs a s l = record {
   least = steady-least a rs l;
-  most = let h = steady-most a rs in omega arith;
+  most = let h = steady_most a rs in omega arith;
   raises = tabled-raised rs a;
-  none_past = λ d h x k. tabled-low rs (a + d) s x k;
+  none_past = λ d h x k. tabled_low rs (a + d) s x k;
 }
 
 pub gathering_done : (a : ℕ) (rs : List Record) (before slots : List Name) (count reach i : ℕ) → Gathering a rs before slots count reach i → length rs ≤ i

@@ -12,8 +12,8 @@ use Rattle.model.specs.Walks.{Bounded, FewerSteps, first_overfull_lem}
 use Rattle.model.specs.Model.{bottom}
 use Rattle.model.specs.Edits.{NetEdit, accept, over, drop_map, enter, asked, then, settled, ended, asks_walks, walks_bounded, net_questions, net_refusal, net_after}
 use Rattle.model.proofs.Bounds.{asked-walked, walked-asked, walked_bound, bound_walked}
-use Rattle.model.proofs.Fewer.{less_bound, some-overlays, map_dropped}
-use Rattle.model.proofs.Keeping.{accept_bound, enter_bound, fresh-sound}
+use Rattle.model.proofs.Fewer.{less_bound, some_overlays, map_dropped}
+use Rattle.model.proofs.Keeping.{accept_bound, enter_bound, fresh_sound}
 use Rattle.blocks.specs.Outcomes.{Decided, Tried}
 use Rattle.blocks.proofs.Asking.{settled-holds}
 use Rattle.table.specs.Settling.{Settles}
@@ -61,7 +61,7 @@ module _ (k : Kept) (e : NetEdit) where
 
 -- no overlay at a node any more
 pub cleared_bound : (k new : Kept) (n d : ℕ) (u : Unit {0}) → d ≡ 33 → Tried k new (over n d) (Ok u) → Bounded k → Bounded new
-cleared_bound k new n d u is t b = fewer_bound k (over n 33) new u (subst (λ z. Tried k new (over n z) (Ok u)) is t) (some-overlays k (set k.overlays n 33) unset) b
+cleared_bound k new n d u is t b = fewer_bound k (over n 33) new u (subst (λ z. Tried k new (over n z) (Ok u)) is t) (some_overlays k (set k.overlays n 33) unset) b
   where
     unset : (i : ℕ) → (get_or (set k.overlays n 33) i 33 ≡ get_or k.overlays i 33) ⊎ (get_or (set k.overlays n 33) i 33 ≡ 33)
     unset i =
@@ -80,15 +80,15 @@ dropped_bound k new x u t bare b = fewer_bound k (drop_map x) new u t (map_dropp
 keeps : (k new after : Kept) (q : Option Refusal) (r : Result (Unit {0}) Fault) → Decided q new k after r → Bounded new → Bounded k → Bounded after
 keeps k new after q r d n h = subst Bounded (sym d.1) (settled-holds Bounded q new k (λ e. n) h)
 
-pub accept-keeps : (k after : Kept) (b : AcceptBlock) (r : Result (Unit {0}) Fault) → Tried k after (accept b) r → Bounded k → Bounded after
-accept-keeps k after b r t h = keeps k (net_after k (accept b)) after (asked (net_questions k (accept b))) r t (accept_bound k b h) h
+pub accept_keeps : (k after : Kept) (b : AcceptBlock) (r : Result (Unit {0}) Fault) → Tried k after (accept b) r → Bounded k → Bounded after
+accept_keeps k after b r t h = keeps k (net_after k (accept b)) after (asked (net_questions k (accept b))) r t (accept_bound k b h) h
 
-pub enter-keeps : (k after : Kept) (n : ℕ) (r : Result (Unit {0}) Fault) → Tried k after (enter n) r → Bounded k → Bounded after
-enter-keeps k after n r t h = keeps k (net_after k (enter n)) after (asked (net_questions k (enter n))) r t (enter_bound k n h) h
+pub enter_keeps : (k after : Kept) (n : ℕ) (r : Result (Unit {0}) Fault) → Tried k after (enter n) r → Bounded k → Bounded after
+enter_keeps k after n r t h = keeps k (net_after k (enter n)) after (asked (net_questions k (enter n))) r t (enter_bound k n h) h
 
 -- a search that finds nothing shows that walks are bounded
 pub none_found : (k : Kept) → none ≡ first_overfull_lem k 32 → Bounded k
 none_found k h = walked_bound k (asked-walked k (ap (λ o. elim o [ none ↦ none | some x ↦ some (at_name 8 x.0 x.1) ]) (sym h)))
 
 pub fresh_bound : (k : Kept) (g : ℕ) → k ≡ fresh g → Bounded k
-fresh_bound k g e = subst Bounded (sym e) (fresh-sound g (bottom (λ a. [])) tt).1
+fresh_bound k g e = subst Bounded (sym e) (fresh_sound g (bottom (λ a. [])) tt).1

@@ -1,29 +1,26 @@
-ghost use Rattle.std.specs.Prelude.{◌≡◌, ◌+◌, min, [], IfOk, IfErr, if◌then◌else◌};
-ghost use Rattle.std.specs.IoError.{error_kind};
+ghost use Rattle.std.specs.Prelude.{◌≡◌, ◌+◌, min, [], IfOk, if◌then◌else◌};
 
 use std::io;
-use std::io::{BufRead, BufReader, ErrorKind, Stdin};
+use std::io::{BufRead, Lock, StdinLock};
 
 // Standard input, line by line, as bytes: what is no text is a line like any other.
 #[derive(Drop)]
 pub struct Input {
-    reader: BufReader<Stdin>,
+    reader: StdinLock<'static>,
     line: Vec<u8>,
     number: u64,
 }
 
 impl Input {
-    // The reader's buffer is all that it allocates: where there is no memory for it, that is the error.
-    pub fn new(rt: &HostRuntime) -> io::Result<Input>
-        ensures line { IfOk result (λ input. input.line.items ≡ []) }
-        ensures number { IfOk result (λ input. input.number ≡ 0) }
-        ensures err { IfErr result (λ e. error_kind e ≡ ErrorKind.OutOfMemory) }
+    pub fn new(rt: &HostRuntime) -> Input
+        ensures line { result.line.items ≡ [] }
+        ensures number { result.number ≡ 0 }
     {
-        Ok(Input {
-            reader: BufReader::new(rt.alloc(), rt.stdin())?,
+        Input {
+            reader: rt.stdin().lock(),
             line: Vec::new(rt.alloc()),
             number: 0,
-        })
+        }
     }
 
     // Reads the next line, without its line feed; false at the end of the input.

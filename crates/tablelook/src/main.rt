@@ -16,7 +16,7 @@ fn main(rt: HostRuntime) -> anyhow::Result<()> {
 }
 
 fn run(rt: &HostRuntime) -> anyhow::Result<()> {
-    let mut input = Input::new(rt)?;
+    let mut input = Input::new(rt);
     let rows = read_rows(rt, &mut input)?;
     let mut table = FlatTable::new();
     if let Err(fault) = table.fill(rows.as_slice()) {

@@ -21,8 +21,8 @@ pub faults_done : (l : Layout) (cs : List ℕ) (i : ℕ) (o : Result (Unit {0}) 
 unfolding faults_from
 faults_done l cs i o h q = sym (at_drop_all (faults_from l i) cs i h) ∙ q
 
-pub checked-whole : (l : Layout) (cs : List ℕ) (o : Result (Unit {0}) RowFault) → length cs ≡ width l → o ≡ faults_from l 0 cs → o ≡ checked l cs
-checked-whole l cs o e q = q ∙ sym (cond-true (eqb (length cs) (width l)) _ _ (eq-eqb (length cs) (width l) e))
+pub checked_whole : (l : Layout) (cs : List ℕ) (o : Result (Unit {0}) RowFault) → length cs ≡ width l → o ≡ faults_from l 0 cs → o ≡ checked l cs
+checked_whole l cs o e q = q ∙ sym (cond-true (eqb (length cs) (width l)) _ _ (eq-eqb (length cs) (width l) e))
 
 -- a field of a line
 bounded : (o : Option ℕ) (k : ℕ) → IfSome o (λ n. n < 16 ^ k) → unwrap_or o 0 < 16 ^ k

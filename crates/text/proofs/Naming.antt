@@ -12,8 +12,8 @@ module _ (names : List Name) (i : ℕ) (whole line : List ℕ) (inv : line ++ na
       ∙ append_assoc line (32 ∷ []) (name_text (get_or names i d) ++ names_text (drop (i + 1) names))
       ∙ ap (λ l. line ++ l) (sym (at_drop_more names_text names i d h)) ∙ inv
 
-  pub names-done : length names ≤ i → line ≡ whole
-  names-done h = sym (append-nil line) ∙ ap (λ l. line ++ l) (sym (at_drop_all names_text names i h)) ∙ inv
+  pub names_done : length names ≤ i → line ≡ whole
+  names_done h = sym (append-nil line) ∙ ap (λ l. line ++ l) (sym (at_drop_all names_text names i h)) ∙ inv
 
 -- no names, and some
 pub found_none : (names : List Name) (line after : List ℕ) → length names ≡ 0 → after ≡ line ++ codes " none" → after ≡ line ++ found_text names

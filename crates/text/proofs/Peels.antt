@@ -72,8 +72,8 @@ part_space l cs i h s q =
     let d = drop-drop 1 i cs in
     (ap (λ z. 32 ∷ z) (sym d) ∙ r.0, ap (faults_from l (i + 1)) (sym d) ∙ r.1)
 
-row-shape : (cs : List ℕ) → length cs ≡ 59 → faults_from Row 0 cs ≡ Ok tt → row_text (record_in cs) ≡ cs
-row-shape cs n q =
+row_shape : (cs : List ℕ) → length cs ≡ 59 → faults_from Row 0 cs ≡ Ok tt → row_text (record_in cs) ≡ cs
+row_shape cs n q =
     let a = part_digits Row cs 0 16 (omega arith) (omega arith) (omega arith) (λ j p t. no_space j (λ e. omega arith) (λ e. omega arith) (λ e. omega arith)) q in
     let s = part_space Row cs 16 (omega arith) refl a.1 in
     let b = part_digits Row cs 17 16 (omega arith) (omega arith) (omega arith) (λ j p t. no_space j (λ e. omega arith) (λ e. omega arith) (λ e. omega arith)) s.1 in
@@ -116,7 +116,7 @@ pub row-spelled : RowSpelledBack
 row-spelled cs r e =
     let g = given_ok (checked Row cs) (record_in cs) r e in
     let p = passed Row cs g.0 in
-    ap row_text (sym g.1) ∙ row-shape cs p.0 p.1
+    ap row_text (sym g.1) ∙ row_shape cs p.0 p.1
 
 pub address-spelled : AddressSpelledBack
 address-spelled cs v e =

@@ -47,8 +47,8 @@ pub read_done : (cs : List ℕ) (i n : ℕ) → length cs ≤ i → read_on n (d
 unfolding read_on
 read_done cs i n h r = sym (at_drop_all (read_on n) cs i h) ∙ r
 
-pub number-whole : (cs : List ℕ) (o : Option ℕ) → 1 ≤ length cs → length cs ≤ 16 → o ≡ read_on 0 cs → o ≡ number_of cs
-number-whole cs o a b e = e ∙ sym (cond-true (leb 1 (length cs) && leb (length cs) 16) (read_on 0 cs) None (and_from (leb 1 (length cs)) (leb (length cs) 16) (le-leb 1 (length cs) a) (le-leb (length cs) 16 b)))
+pub number_whole : (cs : List ℕ) (o : Option ℕ) → 1 ≤ length cs → length cs ≤ 16 → o ≡ read_on 0 cs → o ≡ number_of cs
+number_whole cs o a b e = e ∙ sym (cond-true (leb 1 (length cs) && leb (length cs) 16) (read_on 0 cs) None (and_from (leb 1 (length cs)) (leb (length cs) 16) (le-leb 1 (length cs) a) (le-leb (length cs) 16 b)))
 
 -- a number of at most fifteen digits takes one more
 pub fits_more : (i n : ℕ) → i < 16 → n < 16 ^ i → n < 1152921504606846976
@@ -58,9 +58,9 @@ fits_more i n h b =
     lt_of_lt_of_le b g
 
 -- one digit more is written
-pub spelled-more : (a b : List ℕ) (x : List ℕ) (p v : ℕ) → b ≡ a ++ (digit_code (v / 16 ^ p) ∷ []) → a ++ spelled (suc p) v ≡ x → b ++ spelled p v ≡ x
+pub spelled_more : (a b : List ℕ) (x : List ℕ) (p v : ℕ) → b ≡ a ++ (digit_code (v / 16 ^ p) ∷ []) → a ++ spelled (suc p) v ≡ x → b ++ spelled p v ≡ x
 unfolding spelled
-spelled-more a b x p v e q = ap (λ z. z ++ spelled p v) e ∙ append_assoc a (digit_code (v / 16 ^ p) ∷ []) (spelled p v) ∙ q
+spelled_more a b x p v e q = ap (λ z. z ++ spelled p v) e ∙ append_assoc a (digit_code (v / 16 ^ p) ∷ []) (spelled p v) ∙ q
 
 pub spelled_none : (v : ℕ) → spelled 0 v ≡ []
 unfolding spelled

@@ -110,17 +110,17 @@ module _ (k : Kept) where
         (went_first (below a) ys ys left less mid e refl f g r w)
 
     -- the first step leads to a node, and then come the others
-    to-node : (d a : ℕ) (xs ys : List Spot) → (d ≡ 32 → ⊥) → xs ≡ spot d a ∷ ys → xs ≡ (node d a ∷ []) ++ ys
-    to-node d a xs ys at is = is ∙ ap (λ b. cond b (below a) (node d a) ∷ ys) (ne_eqb d 32 at)
+    to_node : (d a : ℕ) (xs ys : List Spot) → (d ≡ 32 → ⊥) → xs ≡ spot d a ∷ ys → xs ≡ (node d a ∷ []) ++ ys
+    to_node d a xs ys at is = is ∙ ap (λ b. cond b (below a) (node d a) ∷ ys) (ne_eqb d 32 at)
 
     pub went_node : (d a left over : ℕ) (xs ys : List Spot) (mid : Notes) → (d ≡ 32 → ⊥) → xs ≡ spot d a ∷ ys → Passed k (node d a ∷ []) left before mid over
         → (r : Option ℕ) → Went k ys over mid after r → Went k xs left before after r
     went_node d a left over xs ys mid at is p r w =
-        subst (λ l. Went k l left before after r) (sym (to-node d a xs ys at is)) (went_then (node d a ∷ []) ys left over mid p r w)
+        subst (λ l. Went k l left before after r) (sym (to_node d a xs ys at is)) (went_then (node d a ∷ []) ys left over mid p r w)
 
     pub went_past : (d a left : ℕ) (xs ys : List Spot) → (d ≡ 32 → ⊥) → xs ≡ spot d a ∷ ys → trace k left (node d a ∷ []) ≡ none → trace k left xs ≡ none
     went_past d a left xs ys at is h =
-        ap (trace k left) (to-node d a xs ys at is) ∙ trace-++ k left (node d a ∷ []) ys ∙ ap (λ o. bind o (λ us. trace k (left - length us) ys)) h
+        ap (trace k left) (to_node d a xs ys at is) ∙ trace-++ k left (node d a ∷ []) ys ∙ ap (λ o. bind o (λ us. trace k (left - length us) ys)) h
 
 -- a push that has room
 pub pushed : {X : Type 0} (r : Bool) (before after : List X) (x : X) → r ≡ ltb (length before) 64 → length before < 64 → after ≡ cond r (before ++ x ∷ []) before → after ≡ before ++ x ∷ []

@@ -28,24 +28,24 @@ module _ (k : Kept) (n a : ℕ) where
       go (x ∷ xs) = append-nil (x ∷ xs)
 
   -- the overlay's step
-  pub over-accepts : true ≡ accepting k.accepts n a → over k n a ≡ []
-  over-accepts e = ap (chosen (mapped k.maps n a)) (sym e) ∙ go (mapped k.maps n a)
+  pub over_accepts : true ≡ accepting k.accepts n a → over k n a ≡ []
+  over_accepts e = ap (chosen (mapped k.maps n a)) (sym e) ∙ go (mapped k.maps n a)
     where
       go : (xs : List Spot) → chosen xs true ≡ []
       go [] = refl
       go (x ∷ xs) = refl
 
-  pub over-maps : (s : Spot) (xs : List Spot) → mapped k.maps n a ≡ s ∷ xs → over k n a ≡ []
-  over-maps s xs e = ap (λ l. chosen l (accepting k.accepts n a)) e
+  pub over_maps : (s : Spot) (xs : List Spot) → mapped k.maps n a ≡ s ∷ xs → over k n a ≡ []
+  over_maps s xs e = ap (λ l. chosen l (accepting k.accepts n a)) e
 
-  over-at : false ≡ accepting k.accepts n a → mapped k.maps n a ≡ [] → (b : Bool) → leb overlay 32 ≡ b → over k n a ≡ cond b (spot overlay a ∷ []) []
-  over-at e f b g = ap (λ l. chosen l (accepting k.accepts n a)) f ∙ ap (chosen []) (sym e) ∙ ap (λ b. cond b (spot overlay a ∷ []) []) g
+  over_at : false ≡ accepting k.accepts n a → mapped k.maps n a ≡ [] → (b : Bool) → leb overlay 32 ≡ b → over k n a ≡ cond b (spot overlay a ∷ []) []
+  over_at e f b g = ap (λ l. chosen l (accepting k.accepts n a)) f ∙ ap (chosen []) (sym e) ∙ ap (λ b. cond b (spot overlay a ∷ []) []) g
 
   pub over-nowhere : false ≡ accepting k.accepts n a → mapped k.maps n a ≡ [] → (d : ℕ) → d ≡ overlay → 32 < d → over k n a ≡ []
-  over-nowhere e f d is h = over-at e f false (lt-leb overlay 32 (omega arith))
+  over-nowhere e f d is h = over_at e f false (lt-leb overlay 32 (omega arith))
 
   pub over-there : false ≡ accepting k.accepts n a → mapped k.maps n a ≡ [] → (d : ℕ) → d ≡ overlay → d ≤ 32 → over k n a ≡ spot d a ∷ []
-  over-there e f d is h = over-at e f true (le-leb overlay 32 (omega arith)) ∙ ap (λ z. spot z a ∷ []) (sym is)
+  over-there e f d is h = over_at e f true (le-leb overlay 32 (omega arith)) ∙ ap (λ z. spot z a ∷ []) (sym is)
 
   -- past the overlay's place there is nothing
   pub rest-past : (i : ℕ) → length k.maps < i → rest k n a i ≡ []

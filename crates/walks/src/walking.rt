@@ -1,6 +1,6 @@
 ghost use Rattle.std.specs.Prelude.{◌+◌, ◌<◌, ◌≤◌, [], ◌∷◌, length};
 ghost use Rattle.lists.specs.Held.{held};
-ghost use Rattle.model.specs.Nets.{node as at-node};
+ghost use Rattle.model.specs.Nets.{node as at_node};
 ghost use Rattle.blocks.specs.Shape.{kept};
 ghost use Rattle.walks.specs.Steps.{rest};
 ghost use Rattle.walks.specs.Noted.{WalkAnswer};
@@ -18,7 +18,7 @@ use model::names::Name;
 fn walk(blocks: &Blocks, node: u8, address: u64, left: usize, notes: &mut Notes) -> Option<usize>
     requires known { node < 32 }
     requires fits { length (held notes.old.items) + left ≤ 64 }
-    ensures went { Went (kept blocks.now) (at-node node address ∷ []) left notes.old notes.new result }
+    ensures went { Went (kept blocks.now) (at_node node address ∷ []) left notes.old notes.new result }
     ensures fewer { Fewer left notes.new result }
 {
     if left == 0 {

@@ -10,9 +10,9 @@ unfolding pasted
 pasted-nil at o = let e : at + 0 ≡ at = omega arith in sym (ap (λ n. take at o ++ drop n o) e ∙ take-append-drop at o)
 
 -- one more
-pub pasted-more : (w : List ℕ) (at k : ℕ) (o : List ℕ) (x : ℕ) → k ≡ at + length w → k < length o → set (pasted w at o) k x ≡ pasted (w ++ x ∷ []) at o
+pub pasted_more : (w : List ℕ) (at k : ℕ) (o : List ℕ) (x : ℕ) → k ≡ at + length w → k < length o → set (pasted w at o) k x ≡ pasted (w ++ x ∷ []) at o
 unfolding pasted
-pasted-more w at k o x e h =
+pasted_more w at k o x e h =
     let d : drop (at + length w) o ≡ get_or o k 0 ∷ drop (k + 1) o = ap (λ n. drop n o) (sym e) ∙ drop_more o k 0 h in
     let l : length (take at o) ≡ at = length-take-le at o (omega arith) in
     let n : length (take at o ++ w) ≡ k = length-append (take at o) w ∙ ap (λ z. z + length w) l ∙ sym e in
@@ -44,9 +44,9 @@ unfolding pasted
 length-pasted w at o h =
     length-append (take at o) (w ++ drop (at + length w) o) ∙ omega (arith, length-append w (drop (at + length w) o), length-take-le at o (omega arith), length-drop (at + length w) o)
 
-pub pasted-first : (c : ℕ) (w : List ℕ) (k : ℕ) (o : List ℕ) → k < length o → pasted (c ∷ w) k o ≡ pasted w (k + 1) (set o k c)
-pasted-first c w k o h =
-    let one : set o k c ≡ pasted (c ∷ []) k o = ap (λ z. set z k c) (pasted-nil k o) ∙ pasted-more [] k k o c (omega arith) h in
+pub pasted_first : (c : ℕ) (w : List ℕ) (k : ℕ) (o : List ℕ) → k < length o → pasted (c ∷ w) k o ≡ pasted w (k + 1) (set o k c)
+pasted_first c w k o h =
+    let one : set o k c ≡ pasted (c ∷ []) k o = ap (λ z. set z k c) (pasted-nil k o) ∙ pasted_more [] k k o c (omega arith) h in
     sym (ap (λ z. pasted w (k + 1) z) one ∙ pasted_both (c ∷ []) w k (k + 1) o (omega arith) (omega arith))
 
 -- one digit of a number more, of which so many are left
@@ -56,7 +56,7 @@ digit_more zero v k c o whole p h e q = absurd (omega arith)
 digit_more (suc n) v k c o whole p h e q =
     let m : suc n - 1 ≡ n = omega arith in
     let f : c ≡ digit_code (v / 16 ^ n) = e ∙ ap (λ z. digit_code (v / 16 ^ z)) m in
-    ap (λ z. pasted (spelled z v) (k + 1) (set o k c)) m ∙ sym (pasted-first c (spelled n v) k o h) ∙ ap (λ z. pasted (z ∷ spelled n v) k o) f ∙ q
+    ap (λ z. pasted (spelled z v) (k + 1) (set o k c)) m ∙ sym (pasted_first c (spelled n v) k o h) ∙ ap (λ z. pasted (z ∷ spelled n v) k o) f ∙ q
 
 pub digits_done : (left v k : ℕ) (o whole : List ℕ) → left ≡ 0 → pasted (spelled left v) k o ≡ whole → o ≡ whole
 unfolding spelled

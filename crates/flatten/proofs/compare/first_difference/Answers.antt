@@ -2,7 +2,7 @@ use Rattle.std.proofs.Common.{◌≡◌, ◌+◌, ◌-◌, ◌≤◌, length, ta
 use Rattle.model.specs.Model.{lists}
 use Rattle.model.specs.Names.{top}
 use Rattle.flatten.specs.Comparing.{PassBelow}
-use Rattle.flatten.proofs.Leaves.{every_next, every_lacks, every-done}
+use Rattle.flatten.proofs.Leaves.{every_next, every_lacks, every_done}
 use Rattle.flatten.proofs.Comparing.{looked, differs_first, differs_second, passes_on}
 use Rattle.flatten.proofs.compare.first_difference.Goals as goal
 use Rattle.flatten.proofs.compare.first_difference.Goals.{then-reach-far, else-reach-far}
@@ -54,7 +54,7 @@ stretches-preserved g c =
     let b : last ≤ y.1 = elim c.if-reach-far.branch [ then-reach-far w ↦ omega (arith, w.last-is, w.if-reach-far.true) | else-reach-far w ↦ omega (arith, w.last-is) ] in
     let most = p.reaches.most in
     let n = passes_on l r s t at x.0 x.1 y.0 y.1 c.look.new.slots c.look-in-stretches.new.slots p q c.stretches.invariant.0 last
-    (every-done (r at) (take (x.0 - 0) c.look.new.slots) c.loop-n.n-index c.loop-n.invariant c.loop-n-test.false) c.if-not-all_there.ensures a b in
+    (every_done (r at) (take (x.0 - 0) c.look.new.slots) c.loop-n.n-index c.loop-n.invariant c.loop-n-test.false) c.if-not-all_there.ensures a b in
     (n, omega (arith, c.stretches.invariant.1), omega (arith, c.stretches.invariant.2), omega (arith, most, a, c.if-last.false))
 
 pub returns-then-last : goal.returns-then-last
@@ -72,6 +72,6 @@ returns-then-last g c =
     let a : last ≤ x.1 = elim c.if-reach-far.branch [ then-reach-far w ↦ omega (arith, w.last-is) | else-reach-far w ↦ omega (arith, w.last-is, w.if-reach-far.false) ] in
     let b : last ≤ y.1 = elim c.if-reach-far.branch [ then-reach-far w ↦ omega (arith, w.last-is, w.if-reach-far.true) | else-reach-far w ↦ omega (arith, w.last-is) ] in
     let n = passes_on l r s t at x.0 x.1 y.0 y.1 c.look.new.slots c.look-in-stretches.new.slots p q c.stretches.invariant.0 last
-    (every-done (r at) (take (x.0 - 0) c.look.new.slots) c.loop-n.n-index c.loop-n.invariant c.loop-n-test.false) c.if-not-all_there.ensures a b in
+    (every_done (r at) (take (x.0 - 0) c.look.new.slots) c.loop-n.n-index c.loop-n.invariant c.loop-n-test.false) c.if-not-all_there.ensures a b in
     let e : last + 1 ≡ top = omega (arith, c.if-last.true) in
     subst (λ m. PassBelow l r s t m) e n

@@ -7,13 +7,13 @@ use Rattle.model.specs.Names.{top}
 use Rattle.flatten.specs.declared.stretch.Stretch.{Stretch}
 use Rattle.flatten.specs.Runs.{fits}
 use Rattle.flatten.specs.Steps.{Ended, Held}
-use Rattle.flatten.proofs.Seams.{fits-at}
-use Rattle.flatten.proofs.Filling.{filled_start, filled-room, filled-last, filled_more, size_1}
+use Rattle.flatten.proofs.Seams.{fits_at}
+use Rattle.flatten.proofs.Filling.{filled_start, filled-room, filled_last, filled_more, size_1}
 use Rattle.flatten.proofs.write.fill.Goals as goal
 
 -- no list is longer than a scratch that holds them all
 never_longer : (list : ℕ → List Name) (s a : ℕ) → fits list s top ≡ true → a < top → s < length (list a) → ⊥
-never_longer list s a f l m = let h = fits-at list s top a f l in omega (arith, h, m)
+never_longer list s a f l m = let h = fits_at list s top a f l in omega (arith, h, m)
 
 pub unreachable-requires : goal.unreachable-requires
 unreachable-requires g c =
@@ -62,7 +62,7 @@ returns-in-None g c =
     (λ (s : Stretch). (c.runs.held.address < s.address) × Ended list c.runs.held.address (s.address - 1) (length c.runs.scratch) × Held list c.extend.new.scratch s)
     c.in-None.is c.in-Ok-extend.ensures in
     let w = c.write_rows-more.ensures in
-    let p = filled-last list _ c.args.table.now c.runs.scratch c.runs.held c.runs.n c.runs.table c.runs.invariant c.requires.room
+    let p = filled_last list _ c.args.table.now c.runs.scratch c.runs.held c.runs.n c.runs.table c.runs.invariant c.requires.room
     c.write_rows-more.result c.write_rows-more.new.part w.0 w.1 18446744073709551615 c.close_rows.new.part c.close_rows.ensures k.run refl in
     record { count = p.0; flat = p.1; kept = p.2 }
 

@@ -3,7 +3,7 @@ use Rattle.flatten.specs.Runs.{once}
 use Rattle.flatten.proofs.Sets.{nothing}
 use Rattle.flatten.specs.Steps.{row, rows}
 use Rattle.model.specs.declared.records.Record.{Record}
-use Rattle.flatten.proofs.Leaves.{count_old, count_new, count_done, rows_old, rows_new, rows-done, kept_new}
+use Rattle.flatten.proofs.Leaves.{count_old, count_new, count_done, rows_old, rows_new, rows_done, kept_new}
 use Rattle.flatten.proofs.write.write_rows.Goals as goal
 use Rattle.flatten.proofs.write.write_rows.Goals.{then-not-contains, else-not-contains}
 
@@ -38,5 +38,5 @@ loop-i-preserved c =
 pub returns : goal.returns
 returns c = (
   count_done c.args.names.now c.loop-i.i c.loop-i.found _ c.loop-i-test.false c.loop-i.invariant.0,
-  rows-done c.args.lo c.args.names.now c.loop-i.i c.loop-i.found c.loop-i.part c.args.part.now _ c.loop-i-test.false c.loop-i.invariant.1 c.loop-i.invariant.2,
+  rows_done c.args.lo c.args.names.now c.loop-i.i c.loop-i.found c.loop-i.part c.args.part.now _ c.loop-i-test.false c.loop-i.invariant.1 c.loop-i.invariant.2,
 )

@@ -1,6 +1,6 @@
 use Rattle.std.proofs.Common.{eqb}
 use Rattle.std.proofs.lemmas.Bool.{eq-eqb, ne_eqb}
-use Rattle.layers.proofs.Scans.{some-found, some-skip, some-none}
+use Rattle.layers.proofs.Scans.{some-found, some_skip, some-none}
 use Rattle.layers.proofs.pairs.is_from.Goals as goal
 
 pub returns-then-p-component : goal.returns-then-p-component
@@ -10,7 +10,7 @@ returns-then-p-component c =
 
 pub loop-p-preserved : goal.loop-p-preserved
 loop-p-preserved c =
-    some-skip (λ p. eqb p.0 c.args.component) c.args.pairs.now c.loop-p.p-index c.loop-p.invariant
+    some_skip (λ p. eqb p.0 c.args.component) c.args.pairs.now c.loop-p.p-index c.loop-p.invariant
     c.loop-p-test.true (ne_eqb _ c.args.component c.if-p-component.false)
 
 pub returns : goal.returns

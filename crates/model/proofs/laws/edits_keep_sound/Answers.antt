@@ -1,5 +1,5 @@
-use Rattle.model.proofs.Keeping.{fresh-sound, kept, sound_ends}
+use Rattle.model.proofs.Keeping.{fresh_sound, kept, sound_ends}
 use Rattle.model.proofs.laws.edits_keep_sound.Goals as goal
 
 pub returns : goal.returns
-returns c = record { fresh = fresh-sound; kept = kept; walks = sound_ends }
+returns c = record { fresh = fresh_sound; kept = kept; walks = sound_ends }

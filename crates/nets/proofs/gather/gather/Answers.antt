@@ -3,7 +3,7 @@ use Rattle.model.specs.declared.names.Name.{Name}
 use Rattle.model.specs.Model.{lists}
 use Rattle.walks.specs.declared.notes.Note.{Note}
 use Rattle.walks.specs.declared.notes.Note.TheVariants.{Own}
-use Rattle.nets.proofs.Gathers.{nothing, going_done, going_filled, own-short, own-more, arrival_short, arrival_more, put_size, short-filled, going_as}
+use Rattle.nets.proofs.Gathers.{nothing, going_done, going_filled, own_short, own_more, arrival_short, arrival_more, put_size, short_filled, going_as}
 use Rattle.nets.proofs.gather.gather.Goals as goal
 use Rattle.nets.proofs.gather.gather.Goals.{in-Own+else-count-slots, in-Arrival+in-Ok}
 
@@ -12,11 +12,11 @@ returns-then-count-slots g c =
     let f : ℕ → List Name = lists (g.B.Space.means c.args.below.now).shape in
     let xs : List Note = c.args.items.now in
     let old : List Name = c.args.slots.now in
-    let short = own-short f xs c.args.span old c.loop-item.item-index c.loop-item.count c.loop-item.room c.loop-item.slots c.loop-item.invariant
+    let short = own_short f xs c.args.span old c.loop-item.item-index c.loop-item.count c.loop-item.room c.loop-item.slots c.loop-item.invariant
     c.in-Own.name (Own nothing) c.loop-item-test.true c.in-Own.is c.if-count-slots.true in
     record {
       answer = (refl, short);
-      buffer = short-filled f xs c.args.span old c.wipe.new.slots (length c.loop-item.slots) c.wipe.ensures c.loop-item.auto.slots short;
+      buffer = short_filled f xs c.args.span old c.wipe.new.slots (length c.loop-item.slots) c.wipe.ensures c.loop-item.auto.slots short;
     }
 
 pub returns-in-Err : goal.returns-in-Err
@@ -28,7 +28,7 @@ returns-in-Err g c =
     c.in-Arrival.address (Own nothing) c.loop-item-test.true c.in-Arrival.is c.in-Err.ensures.answer.1 in
     record {
       answer = (c.in-Err.ensures.answer.0, short);
-      buffer = short-filled f xs c.args.span old c.wipe-in-Err.new.slots _ c.wipe-in-Err.ensures
+      buffer = short_filled f xs c.args.span old c.wipe-in-Err.new.slots _ c.wipe-in-Err.ensures
           (put_size f xs c.args.span old c.loop-item.item-index c.loop-item.count c.loop-item.room c.loop-item.slots c.loop-item.invariant
           c.in-Arrival.address (Own nothing) c.loop-item-test.true c.in-Arrival.is c.look.new.slots c.look.auto.slots) short;
     }
@@ -41,7 +41,7 @@ loop-item-preserved g c =
     elim c.match-item.branch [
       | in-Own+else-count-slots w ↦
           going_as f xs c.args.span _ old _ _ _ _ _ _
-          (own-more f xs c.args.span old c.loop-item.item-index c.loop-item.count c.loop-item.room c.loop-item.slots c.loop-item.invariant
+          (own_more f xs c.args.span old c.loop-item.item-index c.loop-item.count c.loop-item.room c.loop-item.slots c.loop-item.invariant
           w.in-Own.name (Own nothing) c.loop-item-test.true w.in-Own.is w.if-count-slots.false)
           w.count-is w.room-is w.slots-is
       | in-Arrival+in-Ok w ↦

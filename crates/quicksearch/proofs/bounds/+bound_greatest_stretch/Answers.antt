@@ -7,14 +7,14 @@ use Rattle.walks.specs.Steps.{rest}
 use Rattle.walks.proofs.Stepping.{rest_0}
 use Rattle.quicksearch.specs.Agendas.{Room}
 use Rattle.quicksearch.specs.Remembered.{Bounds, Holds}
-use Rattle.quicksearch.proofs.Queues.{spot-node}
+use Rattle.quicksearch.proofs.Queues.{spot_node}
 use Rattle.quicksearch.proofs.Rooms.{room-steps}
 use Rattle.quicksearch.proofs.Sums.{sum-none, sum_more, sum-all, bound_name, bound_more}
 use Rattle.quicksearch.proofs.bounds.+bound_greatest_stretch.Goals as goal
 
 -- a node as a destination
 as_spot : (k : Kept) (d a extent b : ℕ) → (d ≡ 32 → ⊥) → Holds k (node d a) extent b → Holds k (spot d a) extent b
-as_spot k d a extent b h w = subst (λ s. Holds k s extent b) (sym (spot-node d a h)) w
+as_spot k d a extent b h w = subst (λ s. Holds k s extent b) (sym (spot_node d a h)) w
 
 pub bound-returns : goal.bound-returns
 bound-returns t c =

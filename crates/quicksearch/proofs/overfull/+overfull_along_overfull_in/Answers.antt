@@ -9,7 +9,7 @@ use Rattle.quicksearch.specs.Agendas.{placed, spots, waiting, Room}
 use Rattle.quicksearch.proofs.Exceeds.{within_none}
 use Rattle.quicksearch.proofs.Queues.{sliced, length-waiting, take-kept}
 use Rattle.quicksearch.proofs.Turning.{room_turned, first_turned, turned_waiting, turned_length, turned_back}
-use Rattle.quicksearch.proofs.Ahead.{first, room-first, room_others, arrival, full, room_next, found, missed}
+use Rattle.quicksearch.proofs.Ahead.{first, room_first, room_others, arrival, full, room_next, found, missed}
 use Rattle.quicksearch.proofs.overfull.+overfull_along_overfull_in.Goals as goal
 
 pub overfull_in-returns-then-head-tail : goal.overfull_in-returns-then-head-tail
@@ -105,12 +105,12 @@ overfull_along-along-init t c = (omega arith, refl, c.requires.reliable, λ d h.
 
 pub overfull_along-overflow_add-address : goal.overfull_along-overflow_add-address
 overfull_along-overflow_add-address t c =
-    let w = room-first c.args.blocks.now c.args.queue.now c.args.head c.args.tail c.args.start c.args.extent (omega arith) (omega arith) (omega arith) c.requires.room in
+    let w = room_first c.args.blocks.now c.args.queue.now c.args.head c.args.tail c.args.start c.args.extent (omega arith) (omega arith) (omega arith) c.requires.room in
     omega arith
 
 pub overfull_along-overflow_add-address-in-along : goal.overfull_along-overflow_add-address-in-along
 overfull_along-overflow_add-address-in-along t c =
-    let w = room-first c.args.blocks.now c.args.queue.now c.args.head c.args.tail c.args.start c.args.extent (omega arith) (omega arith) (omega arith) c.requires.room in
+    let w = room_first c.args.blocks.now c.args.queue.now c.args.head c.args.tail c.args.start c.args.extent (omega arith) (omega arith) (omega arith) c.requires.room in
     omega arith
 
 pub overfull_along-returns-in_default : goal.overfull_along-returns-in_default

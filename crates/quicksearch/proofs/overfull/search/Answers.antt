@@ -3,7 +3,7 @@ use mathlib.Core.Option.{none}
 use Rattle.std.proofs.lemmas.List.{length-set}
 use Rattle.model.specs.Walks.{first_overfull_lem}
 use Rattle.blocks.specs.Shape.{kept}
-use Rattle.quicksearch.proofs.Searching.{alone, alone_room, none_here, first-here, none_yet, none_more, first-at}
+use Rattle.quicksearch.proofs.Searching.{alone, alone_room, none_here, first_here, none_yet, none_more, first_at}
 use Rattle.quicksearch.proofs.overfull.search.Goals as goal
 
 pub loop-node-init : goal.loop-node-init
@@ -22,8 +22,8 @@ overfull_in-requires c =
 pub returns-in-Some : goal.returns-in-Some
 returns-in-Some c =
     let k = kept c.args.blocks.now in
-    first-at k c.loop-node.node c.in-Some.address c.loop-node-test.true c.loop-node.invariant.0
-    (first-here k c.loop-node.node _ (alone c.loop-node.queue c.loop-node.node c.loop-node-test.true (omega arith)) c.in-Some.address c.in-Some.ensures.first)
+    first_at k c.loop-node.node c.in-Some.address c.loop-node-test.true c.loop-node.invariant.0
+    (first_here k c.loop-node.node _ (alone c.loop-node.queue c.loop-node.node c.loop-node-test.true (omega arith)) c.in-Some.address c.in-Some.ensures.first)
 
 pub loop-node-preserved : goal.loop-node-preserved
 loop-node-preserved c =

@@ -2,7 +2,7 @@ use Rattle.std.proofs.Common.{◌+◌, ◌%◌, get_or, ap, ◌∙◌, arith}
 use Rattle.model.specs.Names.{top}
 use Rattle.model.specs.Nets.{spot}
 use Rattle.quicksearch.specs.declared.memo.Target.{Target}
-use Rattle.quicksearch.proofs.Memories.{same_more, same-all}
+use Rattle.quicksearch.proofs.Memories.{same_more, same_all}
 use Rattle.quicksearch.proofs.passing.same.Goals as goal
 
 pub loop-i-preserved : goal.loop-i-preserved
@@ -13,4 +13,4 @@ loop-i-preserved c = λ e.
     (ap (λ z. spot z (((get_or c.args.agenda.now c.loop-i.i d).offset + c.args.start) % top)) c.if-t-u.false ∙ ap (spot u.destination) c.if-t-start.false) e)
 
 pub returns : goal.returns
-returns c = λ _. c.loop-i.invariant (same-all c.args.start c.args.origin c.args.agenda.now c.args.other.now c.loop-i.i c.loop-i-test.false (omega arith))
+returns c = λ _. c.loop-i.invariant (same_all c.args.start c.args.origin c.args.agenda.now c.args.other.now c.loop-i.i c.loop-i-test.false (omega arith))

@@ -2,7 +2,7 @@ use Rattle.std.proofs.Common.{◌≡◌, sym, subst, arith}
 use mathlib.Core.Option.{none}
 use Rattle.model.specs.Walks.{first_overfull_lem}
 use Rattle.blocks.specs.Shape.{kept}
-use Rattle.search.proofs.Jumping.{none_yet, none_more, first-at}
+use Rattle.search.proofs.Jumping.{none_yet, none_more, first_at}
 use Rattle.search.proofs.overfull.first_overfull.Goals as goal
 
 pub loop-node-init : goal.loop-node-init
@@ -12,7 +12,7 @@ pub loop-node-preserved : goal.loop-node-preserved
 loop-node-preserved c = none_more (kept c.args.blocks.now) c.loop-node.node c.loop-node.invariant c.in_default.ensures
 
 pub returns-in-Some : goal.returns-in-Some
-returns-in-Some c = first-at (kept c.args.blocks.now) c.loop-node.node c.in-Some.address c.loop-node-test.true c.loop-node.invariant c.in-Some.ensures
+returns-in-Some c = first_at (kept c.args.blocks.now) c.loop-node.node c.in-Some.address c.loop-node-test.true c.loop-node.invariant c.in-Some.ensures
 
 pub returns : goal.returns
 returns c =

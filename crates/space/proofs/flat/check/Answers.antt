@@ -1,5 +1,5 @@
 use Rattle.std.proofs.Common.{sym}
-use Rattle.space.proofs.Tables.{misfit_reversed, misfit-past, misfit-more, misfit-done, no_misfit}
+use Rattle.space.proofs.Tables.{misfit_reversed, misfit-past, misfit_more, misfit_done, no_misfit}
 use Rattle.space.proofs.flat.check.Goals as goal
 
 pub returns-then-row : goal.returns-then-row
@@ -10,9 +10,9 @@ returns-then-not-fits c =
     record { answer = misfit-past c.args.records.now c.loop-place.place c.loop-place.invariant c.loop-place-test.true c.if-row.false c.if-not-fits.ensures; passed = tt }
 
 pub loop-place-preserved : goal.loop-place-preserved
-loop-place-preserved c = misfit-more c.args.records.now c.loop-place.place c.loop-place.invariant c.loop-place-test.true c.if-row.false c.if-not-fits.ensures
+loop-place-preserved c = misfit_more c.args.records.now c.loop-place.place c.loop-place.invariant c.loop-place-test.true c.if-row.false c.if-not-fits.ensures
 
 pub returns : goal.returns
 returns c =
-    let e = misfit-done c.args.records.now c.loop-place.place c.loop-place.invariant c.loop-place-test.false in
+    let e = misfit_done c.args.records.now c.loop-place.place c.loop-place.invariant c.loop-place-test.false in
     record { answer = e; passed = no_misfit 0 c.args.records.now (sym e) }

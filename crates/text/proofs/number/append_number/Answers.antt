@@ -3,7 +3,7 @@ use lib.Utf8.{encode}
 use Rattle.std.proofs.lemmas.List.{append-nil}
 use Rattle.text.specs.Digits.{digit_code}
 use Rattle.text.specs.Numbers.{spelled}
-use Rattle.text.proofs.Spelling.{spelled-more, spelled_none, code_ascii}
+use Rattle.text.proofs.Spelling.{spelled_more, spelled_none, code_ascii}
 use Rattle.text.proofs.number.append_number.Goals as goal
 
 pub loop-place-preserved : goal.loop-place-preserved
@@ -19,7 +19,7 @@ loop-place-preserved c =
     let more = ok.len in
     let wide : length (encode c.digit_at.result) ≡ 1 = ap length one in
     let room = ok.capacity in (
-      spelled-more (string_bytes c.loop-place.out) _ _ p c.args.value grown (ap (λ z. string_bytes c.loop-place.out ++ spelled z c.args.value) e ∙ c.loop-place.invariant.0),
+      spelled_more (string_bytes c.loop-place.out) _ _ p c.args.value grown (ap (λ z. string_bytes c.loop-place.out ++ spelled z c.args.value) e ∙ c.loop-place.invariant.0),
       omega arith,
       omega arith,
       omega arith,

@@ -1,5 +1,5 @@
 use Rattle.std.proofs.Common.{length, get_or, Some, None, sym, ap, ◌∙◌, arith}
-use Rattle.text.proofs.Spelling.{read_more, read_stops, read_done, number-whole, fits_more, value_below, some-length, bound_at}
+use Rattle.text.proofs.Spelling.{read_more, read_stops, read_done, number_whole, fits_more, value_below, some-length, bound_at}
 use Rattle.text.proofs.number.read_number.Goals as goal
 
 pub returns-in_err-low : goal.returns-in_err-low
@@ -7,7 +7,7 @@ returns-in_err-low c =
     let some = some-length (length c.args.digits.now) c.if-is_empty.ensures in
     rw c.from_residual.ensures
     record {
-      value = number-whole c.args.digits.now None some (omega arith) (read_stops c.args.digits.now c.loop-byte.byte-index c.loop-byte.value c.loop-byte-test.true (sym c.in_err-low.ensures) c.loop-byte.invariant.1);
+      value = number_whole c.args.digits.now None some (omega arith) (read_stops c.args.digits.now c.loop-byte.byte-index c.loop-byte.value c.loop-byte-test.true (sym c.in_err-low.ensures) c.loop-byte.invariant.1);
       bound = tt;
     }
 
@@ -30,6 +30,6 @@ pub returns : goal.returns
 returns c =
     let some = some-length (length c.args.digits.now) c.if-is_empty.ensures in
     record {
-      value = number-whole c.args.digits.now _ some (omega arith) (read_done c.args.digits.now c.loop-byte.byte-index c.loop-byte.value c.loop-byte-test.false c.loop-byte.invariant.1);
+      value = number_whole c.args.digits.now _ some (omega arith) (read_done c.args.digits.now c.loop-byte.byte-index c.loop-byte.value c.loop-byte-test.false c.loop-byte.invariant.1);
       bound = bound_at c.loop-byte.value c.loop-byte.byte-index (length c.args.digits.now) (omega arith) (omega arith) c.loop-byte.invariant.0;
     }

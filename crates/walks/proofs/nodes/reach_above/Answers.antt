@@ -2,7 +2,7 @@ use Rattle.std.proofs.Common.{◌≡◌, min, map, ap, ◌∙◌, arith}
 use Rattle.lists.specs.Held.{held}
 use Rattle.blocks.specs.Shape.{accept_block, map_block}
 use Rattle.walks.specs.Spans.{nearest, accept_room, map_room}
-use Rattle.walks.proofs.Scanning.{nearest-top, nearest-more, nearest-all}
+use Rattle.walks.proofs.Scanning.{nearest-top, nearest_more, nearest-all}
 use Rattle.walks.proofs.nodes.reach_above.Goals as goal
 
 pub loop-a-init : goal.loop-a-init
@@ -11,14 +11,14 @@ loop-a-init c = let h = nearest-top (accept_room c.args.node c.args.address) (ma
 pub loop-a-preserved : goal.loop-a-preserved
 loop-a-preserved c = (
   omega (arith, c.min-far.ensures),
-  nearest-more accept_block (accept_room c.args.node c.args.address) c.as_slice-accepted.result.now c.loop-a.a-index c.room_above.result c.loop-a.far c.min-far.result _
+  nearest_more accept_block (accept_room c.args.node c.args.address) c.as_slice-accepted.result.now c.loop-a.a-index c.room_above.result c.loop-a.far c.min-far.result _
       c.a-item.result c.loop-a-test.true c.a-item.is c.room_above.ensures c.min-far.ensures c.loop-a.invariant.1,
 )
 
 pub loop-m-preserved : goal.loop-m-preserved
 loop-m-preserved c = (
   omega (arith, c.min-far-in-loop-m.ensures),
-  nearest-more map_block (map_room c.args.node c.args.address) c.as_slice-mapped.result.now c.loop-m.m-index c.room_above-in-loop-m.result c.loop-m.far c.min-far-in-loop-m.result _
+  nearest_more map_block (map_room c.args.node c.args.address) c.as_slice-mapped.result.now c.loop-m.m-index c.room_above-in-loop-m.result c.loop-m.far c.min-far-in-loop-m.result _
       c.m-item.result c.loop-m-test.true c.m-item.is c.room_above-in-loop-m.ensures c.min-far-in-loop-m.ensures c.loop-m.invariant.1,
 )
 

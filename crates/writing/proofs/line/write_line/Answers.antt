@@ -1,20 +1,20 @@
 use Rattle.std.proofs.Common.{◌≡◌, ◌<◌, length, drop, arith}
 use Rattle.std.proofs.lemmas.List.{at_drop_all}
 use Rattle.writing.specs.Fields.{width}
-use Rattle.writing.proofs.Lined.{width-more, field_more, line-done}
+use Rattle.writing.proofs.Lined.{width_more, field_more, line_done}
 use Rattle.writing.proofs.line.write_line.Goals as goal
 
 pub write_number-next-requires : goal.write_number-next-requires
 write_number-next-requires c =
     let n = c.loop-field.invariant.0 in
-    let w = width-more c.args.fields.now c.loop-field.field-index (record { value = 0; digits = 0 }) c.loop-field-test.true in
+    let w = width_more c.args.fields.now c.loop-field.field-index (record { value = 0; digits = 0 }) c.loop-field-test.true in
     let l = c.loop-field.auto.out in
     omega (arith, c.requires)
 
 pub loop-field-preserved : goal.loop-field-preserved
 loop-field-preserved c =
     let n = c.loop-field.invariant.0 in
-    let w = width-more c.args.fields.now c.loop-field.field-index (record { value = 0; digits = 0 }) c.loop-field-test.true in
+    let w = width_more c.args.fields.now c.loop-field.field-index (record { value = 0; digits = 0 }) c.loop-field-test.true in
     let l = c.loop-field.auto.out in
     let e = c.write_number-next.ensures.end in (
       omega arith,
@@ -34,4 +34,4 @@ returns c =
     let n = c.loop-field.invariant.0 in
     let l = c.loop-field.auto.out in
     let h : c.loop-field.next < length c.loop-field.out = omega (arith, c.requires) in
-    record { end = omega arith; out = line-done c.args.fields.now c.loop-field.field-index c.loop-field.next c.loop-field.out _ c.loop-field-test.false h c.loop-field.invariant.1 }
+    record { end = omega arith; out = line_done c.args.fields.now c.loop-field.field-index c.loop-field.next c.loop-field.out _ c.loop-field-test.false h c.loop-field.invariant.1 }

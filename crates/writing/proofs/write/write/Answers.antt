@@ -3,7 +3,7 @@ use Rattle.std.proofs.lemmas.List.{length-map}
 use Rattle.lists.specs.Held.{held}
 use Rattle.blocks.specs.Shape.{kept, accept_block, map_block}
 use Rattle.writing.specs.Texts.{text_of}
-use Rattle.writing.proofs.Lined.{held-most, length_text, text_written}
+use Rattle.writing.proofs.Lined.{held_most, length_text, text_written}
 use Rattle.writing.proofs.write.write.Goals as goal
 
 pub overflow_mul-need-3 : goal.overflow_mul-need-3
@@ -13,8 +13,8 @@ pub overflow_add-need-3 : goal.overflow_add-need-3
 overflow_add-need-3 c =
     let a = ap length c.as_slice-accepts.ensures in
     let m = ap length c.as_slice-maps.ensures in
-    let f = held-most c.args.blocks.now.accepts in
-    let g = held-most c.args.blocks.now.maps in
+    let f = held_most c.args.blocks.now.accepts in
+    let g = held_most c.args.blocks.now.maps in
     let n = c.count_overlays.ensures.most in
     omega arith
 

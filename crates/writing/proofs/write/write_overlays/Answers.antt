@@ -2,7 +2,7 @@ use Rattle.std.proofs.Common.{get_or, ap, ◌∙◌, arith}
 use Rattle.std.proofs.lemmas.List.{at_drop_more, at_drop_all}
 use Rattle.writing.specs.Pasting.{pasted}
 use Rattle.writing.specs.Texts.{overlay_line, overlays_set}
-use Rattle.writing.proofs.Lined.{overlay_more, overlays-done}
+use Rattle.writing.proofs.Lined.{overlay_more, overlays_done}
 use Rattle.writing.proofs.write.write_overlays.Goals as goal
 
 pub write_overlay-next-requires : goal.write_overlay-next-requires
@@ -31,4 +31,4 @@ pub returns : goal.returns
 returns c =
     let e = at_drop_all overlays_set c.args.overlays.now c.loop-destination.destination-index c.loop-destination-test.false in
     let n = c.loop-destination.invariant.1 in
-    record { end = omega arith; out = overlays-done c.args.overlays.now c.loop-destination.destination-index c.loop-destination.next c.loop-destination.out _ c.loop-destination.invariant.2 c.loop-destination-test.false }
+    record { end = omega arith; out = overlays_done c.args.overlays.now c.loop-destination.destination-index c.loop-destination.next c.loop-destination.out _ c.loop-destination.invariant.2 c.loop-destination-test.false }

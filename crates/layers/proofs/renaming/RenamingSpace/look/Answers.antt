@@ -5,7 +5,7 @@ use Rattle.model.specs.declared.names.Name.{Name}
 use Rattle.model.specs.Names.{renamed}
 use Rattle.model.specs.Model.{Model, lists}
 use Rattle.layers.specs.Pairs.{two}
-use Rattle.layers.proofs.Renames.{filled-renamed, filled-refused, reach-renamed}
+use Rattle.layers.proofs.Renames.{filled-renamed, filled_refused, reach-renamed}
 use Rattle.layers.proofs.renaming.RenamingSpace.look.Goals as goal
 
 pub returns-in-Ok : goal.returns-in-Ok
@@ -29,5 +29,5 @@ returns-in-Err g c =
     let a = c.in-Err.ensures.answer in
     record {
       answer = (a.0, omega (arith, a.1, length-map xs (renamed ps)));
-      buffer = filled-refused ps xs c.args.slots.now c.look.new.slots a.1 c.in-Err.ensures.buffer;
+      buffer = filled_refused ps xs c.args.slots.now c.look.new.slots a.1 c.in-Err.ensures.buffer;
     }

@@ -5,8 +5,8 @@ use Rattle.model.specs.Names.{replaced, renamed, holds}
 use Rattle.model.specs.Model.{lists}
 use Rattle.layers.specs.declared.pairs.Pair.{Pair}
 use Rattle.layers.specs.Pairs.{two}
-use Rattle.layers.proofs.Scans.{blank, some-found, some-skip, some-none}
-use Rattle.layers.proofs.Meeting.{leads, met_itself, met_by_pair, not-met}
+use Rattle.layers.proofs.Scans.{blank, some-found, some_skip, some-none}
+use Rattle.layers.proofs.Meeting.{leads, met_itself, met_by_pair, not_met}
 use Rattle.layers.proofs.renaming.RenamingSpace.meets.Goals as goal
 use Rattle.layers.proofs.renaming.RenamingSpace.meets.Goals.{else-replace-name-via-then-replace-name+else-meets, else-replace-name-via-else-replace-name, else-replace-name-2-via-then-replace-name-2+else-meets-2, else-replace-name-2-via-else-replace-name-2}
 
@@ -42,14 +42,14 @@ loop-p-preserved g c =
           and_left (eqb (replaced ps x.from) c.args.name.component) (holds xs (record { component = x.from; address = c.args.name.address }))
           (ne_eqb (replaced ps x.from) c.args.name.component (λ e. w.if-replace-name-2.false (c.replace-in-loop-p.ensures ∙ e)))
     ] in
-    some-skip (leads ps xs c.args.name) pairs c.loop-p.p-index c.loop-p.invariant c.loop-p-test.true no_lead
+    some_skip (leads ps xs c.args.name) pairs c.loop-p.p-index c.loop-p.invariant c.loop-p-test.true no_lead
 
 pub returns : goal.returns
 returns g c =
     let pairs = c.as_slice-pairs.result.now in
     let ps : List (ℕ × ℕ) = map two pairs in
     let xs : List Name = lists (g.B.Space.means c.args.self.now.below).shape c.args.address in
-    sym (not-met ps xs c.args.name
+    sym (not_met ps xs c.args.name
     (λ e h. elim c.else-replace-name.branch [
       | else-replace-name-via-then-replace-name+else-meets w ↦ both_ways (holds xs c.args.name) (sym w.if-meets.ensures) h
       | else-replace-name-via-else-replace-name w ↦ w.if-replace-name.false (c.replace.ensures ∙ e)

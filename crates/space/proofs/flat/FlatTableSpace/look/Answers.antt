@@ -2,7 +2,7 @@ use Rattle.std.proofs.Common.{◌≡◌, ◌+◌, ◌<◌, min, length, get_or, 
 use Rattle.model.specs.declared.names.Name.{Name}
 use Rattle.model.specs.Bottoms.{tabled, steady}
 use Rattle.model.specs.Looks.{Reach}
-use Rattle.space.proofs.Tables.{blank, Gathering, gathering_start, gathering_no, gathering_yes, gathering_short, gathering_done, sane-here, table_reach}
+use Rattle.space.proofs.Tables.{blank, Gathering, gathering_start, gathering_no, gathering_yes, gathering_short, gathering_done, sane_here, table_reach}
 use Rattle.space.proofs.flat.FlatTableSpace.look.Goals.{then-covers+else-count-slots, else-covers}
 use Rattle.space.proofs.flat.FlatTableSpace.look.Goals as goal
 
@@ -12,7 +12,7 @@ loop-row-init c = gathering_start c.args.address c.args.self.now.records.now c.a
 pub lead-requires : goal.lead-requires
 lead-requires c = record {
   covered = sym c.if-covers.ensures;
-  fits = (sane-here c.args.self.now.records.now c.loop-row.row-index c.loop-row-test.true c.loop-row.invariant.rest-sane).0;
+  fits = (sane_here c.args.self.now.records.now c.loop-row.row-index c.loop-row-test.true c.loop-row.invariant.rest-sane).0;
 }
 
 pub returns-then-count-slots : goal.returns-then-count-slots
