@@ -10,7 +10,6 @@ use nets::net::Net;
 use space::Space;
 use space::bank::Bank;
 use space::flat::FlatTable;
-use std::process::Abort;
 use std::test::Fail;
 
 const ZERO: Name = Name {
@@ -135,21 +134,30 @@ fn a_stack_of_all_layers_decodes(rt: HostRuntime) -> Result<(), Fail> {
     }];
     let mut table = FlatTable::new();
     assert_eq!(rt; table.fill(&rows), Ok(()));
-    decodes_through_all_layers(&rt, table)
+    decodes_through_all_layers(table)
+}
+
+// For a helper that is generic over the bottom: it takes no runtime, and so cannot assert.
+fn check_eq<T: PartialEq + Drop>(found: T, expected: T) -> Result<(), Fail> {
+    if found == expected {
+        Ok(())
+    } else {
+        Err(Fail::new("a stack of all layers gives something else"))
+    }
 }
 
 // A net over a renaming over a window over a net over the bottom, which has component 5 at 100 to 1ff.
-fn decodes_through_all_layers<B: Space + Drop>(rt: &HostRuntime, bottom: B) -> Result<(), Fail> {
+fn decodes_through_all_layers<B: Space + Drop>(bottom: B) -> Result<(), Fail> {
     let mut lower = Net::new(1, bottom);
-    assert_eq!(rt; lower.over(0, 32), Ok(()));
+    check_eq(lower.over(0, 32), Ok(()))?;
     let Ok(window) = Window::new(0x10, 0x2f, 0x1f0, lower) else {
         return Err(Fail::new("the window is refused"));
     };
     let mut renaming = Renaming::new(window);
-    assert_eq!(rt; renaming.pair(5, 6), Ok(()));
-    assert_eq!(rt; renaming.pair(5, 7), Err(Fault::AlreadyThere));
+    check_eq(renaming.pair(5, 6), Ok(()))?;
+    check_eq(renaming.pair(5, 7), Err(Fault::AlreadyThere))?;
     let mut stack = Net::new(1, renaming);
-    assert_eq!(rt;
+    check_eq(
         stack.map(MapBlock {
             node: 0,
             lo: 0,
@@ -157,28 +165,27 @@ fn decodes_through_all_layers<B: Space + Drop>(rt: &HostRuntime, bottom: B) -> R
             destination: 32,
             base: 0,
         }),
-        Ok(())
-    );
+        Ok(()),
+    )?;
     let mut slots = [ZERO; 2];
-    assert_eq!(rt; stack.look(0x1f, &mut slots), Ok((1, 0x1f)));
-    assert_eq!(rt;
+    check_eq(stack.look(0x1f, &mut slots), Ok((1, 0x1f)))?;
+    check_eq(
         slots[0],
         Name {
             component: 6,
             address: 0xff,
-        }
-    );
-    assert_eq!(rt; stack.look(0x20, &mut slots), Ok((0, 0x2f)));
+        },
+    )?;
+    check_eq(stack.look(0x20, &mut slots), Ok((0, 0x2f)))?;
     let mut records = [BLANK; 2];
-    assert_eq!(rt; flatten(&stack, &mut slots, &mut records), Ok(1));
-    assert_eq!(rt;
+    check_eq(flatten(&stack, &mut slots, &mut records), Ok(1))?;
+    check_eq(
         records[0],
         Record {
             lo: 0x10,
             hi: 0x1f,
             component: 6,
             base: 0xf0,
-        }
-    );
-    Ok(())
+        },
+    )
 }
