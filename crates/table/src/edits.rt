@@ -83,7 +83,7 @@ impl Table {
         requires { bounded (kept new) ≡ true }
         ensures { self.new.blocks ≡ new }
     {
-        self.blocks = new;
+        *self = Table { blocks: new };
     }
 
     // Keeps new blocks, unless one of their walks meets more than 64 names.
@@ -93,7 +93,7 @@ impl Table {
         match first_overfull(&new) {
             Some((node, address)) => Err(Fault::WalkTooLong { node, address }),
             None => {
-                self.keep(new);
+                self.blocks = new;
                 Ok(())
             }
         }
