@@ -1,7 +1,7 @@
-ghost use Rattle.std.specs.Prelude.{◌≡◌, ◌+◌, [], ◌∷◌, ◌++◌, length, take, drop, if◌then◌else◌, nat_lt};
+ghost use Rattle.std.specs.Prelude.{◌≡◌, ◌+◌, [], ◌∷◌, ◌++◌, length, take, drop, is_ok, if◌then◌else◌, nat_lt};
 ghost use Rattle.lists.specs.Held.{held};
 
-use crate::ArrayVec;
+use crate::{ArrayVec, Full};
 
 impl<T: Copy, const N: usize> ArrayVec<T, N> {
     // An empty list; the places are filled with `blank` for the time being.
@@ -27,17 +27,17 @@ impl<T: Copy, const N: usize> ArrayVec<T, N> {
         &all[0..self.len]
     }
 
-    // Adds x at the end, where there is a place for it, and says whether there was.
-    pub fn push(&mut self, x: T) -> bool
-        ensures room { result ≡ nat_lt (length (held self.old)) N }
-        ensures kept { held self.new ≡ (if result then held self.old ++ x ∷ [] else held self.old) }
+    // Adds x at the end, unless no place is left.
+    pub fn push(&mut self, x: T) -> Result<(), Full>
+        ensures room { is_ok result ≡ nat_lt (length (held self.old)) N }
+        ensures kept { held self.new ≡ (if is_ok result then held self.old ++ x ∷ [] else held self.old) }
     {
         if self.len >= N {
-            return false;
+            return Err(Full);
         }
         self.items[self.len] = x;
         self.len += 1;
-        true
+        Ok(())
     }
 
     // Takes out what stands at a place, and closes the gap; past the end nothing changes.
@@ -45,13 +45,9 @@ impl<T: Copy, const N: usize> ArrayVec<T, N> {
         ensures { held self.new ≡ take at (held self.old) ++ drop (at + 1) (held self.old) }
     {
         let count = self.len;
-        if at >= count {
-            return;
+        if at < count {
+            self.items.copy_within(at + 1..count, at);
+            self.len = count - 1;
         }
-        for i in at + 1..count {
-            let x = self.items[i];
-            self.items[i - 1] = x;
-        }
-        self.len = count - 1;
     }
 }

@@ -1,41 +1,33 @@
 -- Which names are gathered from the spots of a walk.
-use Rattle.std.proofs.Common.{◌≡◌, ℕ, Bool, true, false, cond, eqb, ◌⊎◌, List, [], ◌∷◌, ◌++◌, map, sym, refl, ap, ◌∙◌, inl, inr}
-use Rattle.std.proofs.lemmas.Bool.{and_parts, and_from, eqb-true, eq-eqb, or_cases, or_left, or_right, false≢true}
+use Rattle.std.proofs.Common.{◌≡◌, ℕ, Bool, true, false, cond, ◌||◌, ◌⊎◌, List, [], ◌∷◌, ◌++◌, map, sym, refl, ap, ◌∙◌, inl, inr}
+use Rattle.std.proofs.lemmas.Bool.{or_cases, or_left, or_right, false≢true}
+use Rattle.std.proofs.lemmas.List.Folds.{list_any-append}
+use Rattle.sets.proofs.Ranking.{same_self as itself}
 use Rattle.model.specs.declared.names.Name.{Name}
+use Rattle.model.specs.ByFields.{name_order}
 use Rattle.model.specs.Names.{same_name, holds}
 use Rattle.model.specs.Nets.{Kept, Spot, node, below, accepting}
 use Rattle.model.specs.Model.{own, gathered}
 use Rattle.model.specs.Decoding.{Among, here, later}
 
 pub same_true : (x y : Name) → same_name x y ≡ true → x ≡ y
-same_true x y e =
-    let p = and_parts (eqb x.component y.component) (eqb x.address y.address) e in
-    ap {B = Name} (λ c. record { component = c; address = x.address }) (eqb-true x.component y.component p.0)
-    ∙ ap {B = Name} (λ a. record { component = y.component; address = a }) (eqb-true x.address y.address p.1)
+same_true = name_order.whole
 
 pub same_self : (x : Name) → same_name x x ≡ true
-same_self x = and_from _ _ (eq-eqb x.component x.component refl) (eq-eqb x.address x.address refl)
+same_self = itself name_order
 
-module _ (x : Name) where
-  pub holds_either : (xs ys : List Name) → holds (xs ++ ys) x ≡ true → (holds xs x ≡ true) ⊎ (holds ys x ≡ true)
-  holds_either [] ys h = inr h
-  holds_either (y ∷ xs) ys h =
-      elim (or_cases (same_name y x) (holds (xs ++ ys) x) h) [
-        | inl e ↦ inl (or_left (same_name y x) (holds xs x) e)
-        | inr e ↦ elim (holds_either xs ys e) [ inl f ↦ inl (or_right (same_name y x) (holds xs x) f) | inr f ↦ inr f ]
-      ]
+module _ (x : Name) (xs ys : List Name) where
+  holds_both : holds (xs ++ ys) x ≡ (holds xs x || holds ys x)
+  holds_both = list_any-append (λ y. same_name y x) xs ys
 
-  pub holds_left : (xs ys : List Name) → holds xs x ≡ true → holds (xs ++ ys) x ≡ true
-  holds_left [] ys h = absurd (false≢true h)
-  holds_left (y ∷ xs) ys h =
-      elim (or_cases (same_name y x) (holds xs x) h) [
-        | inl e ↦ or_left (same_name y x) (holds (xs ++ ys) x) e
-        | inr e ↦ or_right (same_name y x) (holds (xs ++ ys) x) (holds_left xs ys e)
-      ]
+  pub holds_either : holds (xs ++ ys) x ≡ true → (holds xs x ≡ true) ⊎ (holds ys x ≡ true)
+  holds_either h = or_cases (holds xs x) (holds ys x) (sym holds_both ∙ h)
 
-  pub holds_right : (xs ys : List Name) → holds ys x ≡ true → holds (xs ++ ys) x ≡ true
-  holds_right [] ys h = h
-  holds_right (y ∷ xs) ys h = or_right (same_name y x) (holds (xs ++ ys) x) (holds_right xs ys h)
+  pub holds_left : holds xs x ≡ true → holds (xs ++ ys) x ≡ true
+  holds_left h = holds_both ∙ or_left (holds xs x) (holds ys x) h
+
+  pub holds_right : holds ys x ≡ true → holds (xs ++ ys) x ≡ true
+  holds_right h = holds_both ∙ or_right (holds xs x) (holds ys x) h
 
 -- the renamed list has the renamed names
 pub holds-map : (f : Name → Name) (xs : List Name) (y : Name) → holds xs y ≡ true → holds (map f xs) (f y) ≡ true

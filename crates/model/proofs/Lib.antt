@@ -9,3 +9,4 @@ pub mod Fewer
 pub mod Keeping
 pub mod Needed
 pub mod Settling
+pub mod Firsts

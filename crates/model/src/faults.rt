@@ -35,8 +35,8 @@ impl Fault {
         match *self {
             Fault::NodeOutOfRange => 1,
             Fault::DestinationOutOfRange => 2,
-            Fault::RangeReversed => 3,
-            Fault::TargetPastTop => 4,
+            Fault::RangeReversed | Fault::RecordReversed { .. } => 3,
+            Fault::TargetPastTop | Fault::RecordPastTop { .. } => 4,
             Fault::AlreadyThere => 5,
             Fault::NotThere => 6,
             Fault::TableFull => 7,
@@ -48,8 +48,6 @@ impl Fault {
             Fault::OddDigits => 13,
             Fault::KindUnknown => 14,
             Fault::LengthWrong => 15,
-            Fault::RecordReversed { .. } => 3,
-            Fault::RecordPastTop { .. } => 4,
         }
     }
 }
@@ -58,33 +56,29 @@ impl Fault {
 impl fmt::Display for Fault {
     fn fmt<W: fmt::Write>(&self, f: &mut fmt::Formatter<W>) -> fmt::Result {
         let number = self.number();
-        match *self {
-            Fault::NodeOutOfRange => write!(f, "{number} (the node is above 31)"),
-            Fault::DestinationOutOfRange => write!(f, "{number} (the destination is out of range)"),
-            Fault::RangeReversed => write!(f, "{number} (lo is above hi)"),
-            Fault::TargetPastTop => write!(f, "{number} (the target passes the last address)"),
-            Fault::AlreadyThere => write!(f, "{number} (it is there already)"),
-            Fault::NotThere => write!(f, "{number} (it is not there)"),
-            Fault::TableFull => write!(f, "{number} (no place is free)"),
-            Fault::WalkTooLong { node, address } => write!(
-                f,
-                "{number} (the walk from node {node}, address {address:016x} would meet more than 64 names)"
-            ),
-            Fault::BufferShort => write!(f, "{number} (the buffer does not hold the answer)"),
-            Fault::ScratchShort => write!(f, "{number} (the scratch does not hold every list)"),
-            Fault::SecondScratchShort => write!(
-                f,
-                "{number} (the second scratch does not hold every list)"
-            ),
-            Fault::NotADigit => write!(f, "{number} (a character is no digit)"),
-            Fault::OddDigits => write!(f, "{number} (the number of digits is odd or 0)"),
-            Fault::KindUnknown => write!(f, "{number} (the kind is unknown)"),
-            Fault::LengthWrong => write!(f, "{number} (the frame has not its kind's length)"),
-            Fault::RecordReversed { .. } => write!(f, "{number} (lo is above hi)"),
-            Fault::RecordPastTop { .. } => write!(
-                f,
-                "{number} (the target passes the last address)"
-            ),
-        }
+        let meaning = match *self {
+            Fault::NodeOutOfRange => "the node is above 31",
+            Fault::DestinationOutOfRange => "the destination is out of range",
+            Fault::RangeReversed | Fault::RecordReversed { .. } => "lo is above hi",
+            Fault::TargetPastTop | Fault::RecordPastTop { .. } =>
+                "the target passes the last address",
+            Fault::AlreadyThere => "it is there already",
+            Fault::NotThere => "it is not there",
+            Fault::TableFull => "no place is free",
+            Fault::WalkTooLong { node, address } => {
+                return write!(
+                    f,
+                    "{number} (the walk from node {node}, address {address:016x} would meet more than 64 names)"
+                );
+            }
+            Fault::BufferShort => "the buffer does not hold the answer",
+            Fault::ScratchShort => "the scratch does not hold every list",
+            Fault::SecondScratchShort => "the second scratch does not hold every list",
+            Fault::NotADigit => "a character is no digit",
+            Fault::OddDigits => "the number of digits is odd or 0",
+            Fault::KindUnknown => "the kind is unknown",
+            Fault::LengthWrong => "the frame has not its kind's length",
+        };
+        write!(f, "{number} ({meaning})")
     }
 }

@@ -6,4 +6,5 @@ pub mod faults;
 pub mod laws;
 pub mod names;
 pub mod order;
+pub mod ranges;
 pub mod records;

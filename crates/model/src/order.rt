@@ -1,4 +1,5 @@
 // Names, records and blocks are ordered by their fields, from the first to the last.
+// One impl for each: the gate takes none that a macro writes, and a generic one would have to be told each of these names.
 ghost use Rattle.model.specs.Names.{same_name};
 ghost use Rattle.model.specs.Edits.{same_accept, same_map};
 ghost use Rattle.model.specs.Orders.{rank_accept, rank_map, rank_name, rank_record, same_record, name_fields, record_fields, accept_fields, map_fields};

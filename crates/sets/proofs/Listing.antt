@@ -2,39 +2,22 @@
 use Rattle.std.proofs.Common.{◌≡◌, ℕ, Bool, true, false, ◌&&◌, eqb, List, [], ◌∷◌, Ordering, Less, Equal, Greater, sym, refl, ap, ◌∙◌, true≢false, eqb-true}
 use mathlib.Core.Bool.{false≢true}
 use Rattle.std.specs.Ordering.{is_eq, is_gt, ordering_reverse, ordering_then, nat_cmp}
-use Rattle.std.specs.Cmp.{nat_cmp_total, unsigned_tied, alike_right}
+use Rattle.std.specs.Cmp.{nat_cmp_total, unsigned_tied, alike_right, then_flip, tied_then}
+use Rattle.std.proofs.Math.Bool.{and-true, and-false}
 use Rattle.std.proofs.lemmas.Bool.{and_parts}
 use Rattle.sets.specs.Fields.{lex}
 use Rattle.sets.specs.Orders.{Order}
-
-then_turned : (a b : Ordering) → ordering_then (ordering_reverse a) (ordering_reverse b) ≡ ordering_reverse (ordering_then a b)
-then_turned Less b = refl
-then_turned Equal b = refl
-then_turned Greater b = refl
 
 then_equal : (k : Ordering) → ordering_then k Equal ≡ k
 then_equal Less = refl
 then_equal Equal = refl
 then_equal Greater = refl
 
-and-true : (b : Bool) → (b && true) ≡ b
-and-true true = refl
-and-true false = refl
-
-and-false : (b : Bool) → (b && false) ≡ false
-and-false true = refl
-and-false false = refl
-
-then_eq : (a b : Ordering) → is_eq (ordering_then a b) ≡ (is_eq a && is_eq b)
-then_eq Less b = refl
-then_eq Equal b = refl
-then_eq Greater b = refl
-
 pub lex_flips : (xs ys : List ℕ) → lex xs ys ≡ ordering_reverse (lex ys xs)
 lex_flips [] [] = refl
 lex_flips [] (y ∷ ys) = refl
 lex_flips (x ∷ xs) [] = refl
-lex_flips (x ∷ xs) (y ∷ ys) = (λ i. ordering_then (nat_cmp_total.antisymm x y i) (lex_flips xs ys i)) ∙ then_turned (nat_cmp y x) (lex ys xs)
+lex_flips (x ∷ xs) (y ∷ ys) = (λ i. ordering_then (nat_cmp_total.antisymm x y i) (lex_flips xs ys i)) ∙ then_flip (nat_cmp y x) (lex ys xs)
 
 lex-steps : (x y z : ℕ) (a b c : Ordering) (k m : Ordering) → nat_cmp x y ≡ k → nat_cmp y z ≡ m → (a ≡ Less → b ≡ Less → c ≡ Less) → ordering_then k a ≡ Less → ordering_then m b ≡ Less → ordering_then (nat_cmp x z) c ≡ Less
 lex-steps x y z a b c Less Less p q t h g = ap (λ k. ordering_then k c) (nat_cmp_total.trans x y z p q)
@@ -67,10 +50,10 @@ alike (x ∷ xs) [] = false
 alike (x ∷ xs) (y ∷ ys) = alike_next x xs y ys
 
 next_agrees : (x : ℕ) (xs : List ℕ) (y : ℕ) (ys : List ℕ) → is_eq (lex (x ∷ xs) (y ∷ ys)) ≡ alike_next x xs y ys
-next_agrees x [] y [] = then_eq (nat_cmp x y) Equal ∙ and-true (is_eq (nat_cmp x y)) ∙ unsigned_tied x y
-next_agrees x [] y (z ∷ zs) = then_eq (nat_cmp x y) Less ∙ and-false (is_eq (nat_cmp x y))
-next_agrees x (w ∷ ws) y [] = then_eq (nat_cmp x y) Greater ∙ and-false (is_eq (nat_cmp x y))
-next_agrees x (w ∷ ws) y (z ∷ zs) = then_eq (nat_cmp x y) (lex (w ∷ ws) (z ∷ zs)) ∙ (λ i. unsigned_tied x y i && next_agrees w ws z zs i)
+next_agrees x [] y [] = sym (tied_then (nat_cmp x y) Equal) ∙ and-true (is_eq (nat_cmp x y)) ∙ unsigned_tied x y
+next_agrees x [] y (z ∷ zs) = sym (tied_then (nat_cmp x y) Less) ∙ and-false (is_eq (nat_cmp x y))
+next_agrees x (w ∷ ws) y [] = sym (tied_then (nat_cmp x y) Greater) ∙ and-false (is_eq (nat_cmp x y))
+next_agrees x (w ∷ ws) y (z ∷ zs) = sym (tied_then (nat_cmp x y) (lex (w ∷ ws) (z ∷ zs))) ∙ (λ i. unsigned_tied x y i && next_agrees w ws z zs i)
 
 pub lex_agrees : (xs ys : List ℕ) → is_eq (lex xs ys) ≡ alike xs ys
 lex_agrees [] [] = refl

@@ -1,18 +1,33 @@
 -- Lemmas in the shapes that the functions' needs have.
-use Rattle.std.proofs.Common.{◌≡◌, ◌==◌, ℕ, zero, suc, ◌+◌, ◌-◌, ◌<◌, ◌≤◌, Bool, true, false, cond, not, ◌||◌, List, [], ◌∷◌, ◌++◌, length, get_or, take, drop, set, Ordering, Less, Equal, Greater, sym, refl, ap, ◌∙◌, subst, ⊎_elim, append_assoc, add-one, arith}
+use Rattle.std.proofs.Common.{◌≡◌, ℕ, zero, suc, ◌+◌, ◌-◌, ◌<◌, ◌≤◌, Bool, true, false, cond, ◌||◌, List, [], ◌∷◌, ◌++◌, length, get_or, take, drop, set, Ordering, Less, Greater, sym, refl, ap, ◌∙◌, subst, ⊎_elim, append_assoc, add-one, arith, ◌==◌, not, Equal}
 use Rattle.std.specs.Ordering.{is_eq, is_lt, is_gt, ordering_index}
-use Rattle.std.specs.List.Sorted.{IsNonDecreasingBy, IsPartitionPoint, IsSortedWithin, IsSorted}
+use Rattle.std.specs.Prelude.{Ok, Err, Result, IfNone}
+use Rattle.std.specs.Result.{result_ok}
+use Rattle.std.specs.declared.option.Option.{Option}
+use Rattle.std.specs.List.Sorted.{IsNonDecreasingBy, IsPartitionPoint, IsBinarySearchResult, IsSortedWithin, IsSorted}
 use Rattle.std.specs.List.{AllByRecursion}
 use Rattle.std.proofs.ByRecursion.{All-get_or, All-from_get_or}
-use Rattle.std.proofs.lemmas.List.{at_drop_more, at_drop_all, drop_more, drop_all, drop-drop, drop-set-lt, get_or-drop, get_or_read, get_or-set_same, length-set, length-take-le, append-nil, take-append-drop, take_at, take_more_set}
+use Rattle.std.proofs.lemmas.List.{drop_more, drop_all, drop-drop, drop-set-lt, get_or-drop, get_or_read, get_or-set_same, length-set, length-take-le, append-nil, take-append-drop, take_at, take_more_set}
 use Rattle.std.proofs.lemmas.List.Sorted.{searchable_from_sorted}
 use Rattle.std.proofs.lemmas.Bool.{cases_lt}
 use Rattle.sets.specs.Members.{some_of}
+use Rattle.sets.specs.declared.order.Ordered.{Ghosts}
 use Rattle.sets.specs.Orders.{Order}
 use Rattle.sets.specs.Sets.{past, squeezed, sorted, set_of, Rising}
 use Rattle.sets.proofs.Ranking.{UpTo, total, gt_turned}
 use Rattle.sets.proofs.Sorting.{Up}
 use Rattle.sets.proofs.Squeezing.{climbs, up_from_climbs, set_rises, set-some}
+
+-- the order that a type's members make
+abbrev pub order : {A : Type 0} → Ghosts A → Order A
+order t = record {
+  rank = t.rank;
+  same = t.same;
+  flips = t.flips;
+  rises = t.rises;
+  agrees = t.agrees;
+  whole = t.whole;
+}
 
 -- ---- what a comparison tells
 
@@ -31,20 +46,9 @@ twice_not false = refl
 pub differ_told : {A : Type 0} (o : Order A) (x y : A) (k : Ordering) (t s : Bool) → k ≡ o.rank x y → t ≡ not (ordering_index k == 1) → t ≡ s → o.same x y ≡ not s
 differ_told o x y k t s e d u = same_told o x y k (ordering_index k == 1) e refl ∙ sym (twice_not (ordering_index k == 1)) ∙ ap not (sym d ∙ u)
 
--- ---- a scan for an element
-
-module _ {A : Type 0} (p : A → Bool) (xs : List A) (i : ℕ) (x : A) (l : i < length xs) (e : x ≡ get_or xs i x) (h : some_of p (drop i xs) ≡ some_of p xs) where
-  some_next : (p x || some_of p (drop (i + 1) xs)) ≡ some_of p xs
-  some_next = ap (λ w. p w || some_of p (drop (i + 1) xs)) e ∙ sym (at_drop_more (some_of p) xs i x l) ∙ h
-
-  pub scan_found : p x ≡ true → true ≡ some_of p xs
-  scan_found t = ap (λ b. b || some_of p (drop (i + 1) xs)) (sym t) ∙ some_next
-
-  pub scan_on : p x ≡ false → some_of p (drop (i + 1) xs) ≡ some_of p xs
-  scan_on t = ap (λ b. b || some_of p (drop (i + 1) xs)) (sym t) ∙ some_next
-
-pub scan_over : {A : Type 0} (p : A → Bool) (xs : List A) (i : ℕ) → length xs ≤ i → some_of p (drop i xs) ≡ some_of p xs → false ≡ some_of p xs
-scan_over p xs i l h = sym (at_drop_all (some_of p) xs i l) ∙ h
+-- two elements are the same where they are equal by `==`
+pub same_by_eq : {A : Type 0} (o : Order A) (R : A → A → Ordering) (E : A → A → Bool) → ((x y : A) → R x y ≡ o.rank x y) → ((x y : A) → E x y ≡ is_eq (R x y)) → (x y : A) → o.same x y ≡ E x y
+same_by_eq o R E says ties x y = sym (ties x y ∙ ap is_eq (says x y) ∙ o.agrees x y)
 
 -- ---- squeezing
 
@@ -187,3 +191,8 @@ module _ {A : Type 0} (o : Order A) where
       (λ b. sym (o.agrees (get_or xs k w) w) ∙ ap is_eq (sym (says (get_or xs k w) w) ∙ p.0 k w (omega arith) b))
       (λ b. sym (o.agrees (get_or xs k w) w) ∙ ap is_eq (sym (says (get_or xs k w) w) ∙ p.1 k w b l))
       (cases_lt k i)))
+
+  pub search_misses : (R : A → A → Ordering) (says : (x y : A) → R x y ≡ o.rank x y) (xs : List A) (w : A) (r : Result ℕ ℕ) (s : Option ℕ)
+      → s ≡ result_ok r → IsBinarySearchResult (λ y. R y w) xs r → Rising o.rank xs → IfNone s (some_of (λ y. o.same y w) xs ≡ false)
+  search_misses R says xs w (Ok i) s e h u = subst (λ t. IfNone t (some_of (λ y. o.same y w) xs ≡ false)) (sym e) tt
+  search_misses R says xs w (Err i) s e h u = subst (λ t. IfNone t (some_of (λ y. o.same y w) xs ≡ false)) (sym e) (search_lacks R says xs w i h u)

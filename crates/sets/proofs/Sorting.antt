@@ -1,10 +1,11 @@
 -- Insertion sort: it ascends, keeps what it sorts, and is the one list that does.
-use Rattle.std.proofs.Common.{◌≡◌, ℕ, suc, ◌+◌, ◌<◌, ◌≤◌, Bool, true, false, cond, ◌||◌, List, [], ◌∷◌, length, get_or, fold, Ordering, Less, Equal, Greater, sym, refl, ap, ◌∙◌, true≢false, arith}
+use Rattle.std.proofs.Common.{◌≡◌, ℕ, suc, ◌+◌, ◌<◌, ◌≤◌, Bool, true, false, cond, ◌||◌, List, [], ◌∷◌, length, get_or, Ordering, Less, Equal, Greater, sym, refl, ap, ◌∙◌, true≢false, arith}
 use Rattle.std.specs.Ordering.{is_lt, is_gt, ordering_reverse}
 use Rattle.std.specs.List.Sorted.{IsPermutation, IsSortedWithin}
 use Rattle.std.specs.Cmp.{IsStrictWeakOrder}
-use Rattle.std.specs.List.{AllByRecursion}
+use Rattle.std.specs.List.{AllByRecursion, sum_by}
 use Rattle.std.proofs.ByRecursion.{All-weaker, All-from_get_or}
+use Rattle.std.proofs.lemmas.List.Recursion.{is_sum_by}
 use Rattle.std.proofs.lemmas.List.Sorted.{sum_by-IsPermutation, sorted_far}
 use Rattle.sets.specs.Members.{some_of}
 use Rattle.sets.specs.Orders.{Order}
@@ -16,16 +17,11 @@ abbrev pub times : {A : Type 0} → (A → Bool) → List A → ℕ
 times p [] = 0
 times p (x ∷ xs) = cond (p x) 1 0 + times p xs
 
-folded_times : {A : Type 0} (p : A → Bool) (n : ℕ) (xs : List A) → fold (λ a x. a + cond (p x) 1 0) n xs ≡ n + times p xs
-folded_times p n [] = omega arith
-folded_times p n (x ∷ xs) = let h = folded_times p (n + cond (p x) 1 0) xs in omega arith
+times_sum : {A : Type 0} (p : A → Bool) (xs : List A) → times p xs ≡ sum_by (λ x. cond (p x) 1 0) xs
+times_sum p xs = is_sum_by (times p) (λ x. cond (p x) 1 0) refl (λ x xs. refl) xs
 
 pub times_shuffled : {A : Type 0} (p : A → Bool) (xs ys : List A) → IsPermutation xs ys → times p ys ≡ times p xs
-times_shuffled p xs ys h =
-    let a = folded_times p 0 xs in
-    let b = folded_times p 0 ys in
-    let s = sum_by-IsPermutation (λ x. cond (p x) 1 0) xs ys h in
-    omega arith
+times_shuffled p xs ys h = times_sum p ys ∙ sum_by-IsPermutation (λ x. cond (p x) 1 0) xs ys h ∙ sym (times_sum p xs)
 
 module _ {A : Type 0} (rank : A → A → Ordering) where
   placed-some : (p : A → Bool) (x y : A) (ys : List A) (t : Bool) → some_of p (placed rank x ys) ≡ (p x || some_of p ys) → some_of p (cond t (y ∷ placed rank x ys) (x ∷ (y ∷ ys))) ≡ (p x || (p y || some_of p ys))

@@ -3,10 +3,9 @@ ghost use Rattle.sets.specs.Members.{some_of};
 ghost use Rattle.sets.specs.Sets.{Rising, set_of, sorted, squeezed};
 
 use crate::order::Ordered;
-use std::cmp::Ordering;
 
 // Turns the slice, in place, into a set at its front: rising, each element once.
-// Answers how many they are; behind them stands what the sorted slice has there.
+// Answers how many they are; behind them stands what the sorted slice has there. There is no heap: the caller's slice holds the set.
 pub fn make_set<T: Ordered>(items: &mut [T]) -> usize
     ensures count { result ≡ length (set_of T.Ordered.rank T.Ordered.same items.old) }
     ensures held { items.new ≡ set_of T.Ordered.rank T.Ordered.same items.old ++ drop result (sorted T.Ordered.rank items.old) }
@@ -27,10 +26,11 @@ fn squeeze<T: Ordered>(items: &mut [T]) -> usize
         return 0;
     }
     let mut used = 1;
+    // In place, reading at one index and writing at another: no iterator lends both.
     for i in 1..count {
         let next = items[i];
         let last = items[used - 1];
-        if last.cmp(&next) != Ordering::Equal {
+        if last != next {
             items[used] = next;
             used += 1;
         }
@@ -43,8 +43,5 @@ pub fn find<T: Ordered>(items: &[T], wanted: T) -> Option<usize>
     ensures there { IfSome result (λ i. (i < length items.now) × (slice_index_or items.now i wanted ≡ wanted)) }
     ensures missing { Rising T.Ordered.rank items.now → IfNone result (some_of (λ y. T.Ordered.same y wanted) items.now ≡ false) }
 {
-    match items.binary_search(&wanted) {
-        Ok(place) => Some(place),
-        Err(_) => None,
-    }
+    items.binary_search(&wanted).ok()
 }

@@ -1,18 +1,18 @@
 -- Tables of records, gone through from the first record on.
-use Rattle.std.proofs.Common.{◌≡◌, ℕ, suc, ◌+◌, ◌-◌, ◌<◌, ◌≤◌, min, Bool, true, false, cond, ◌&&◌, ◌||◌, eqb, ltb, leb, List, [], ◌∷◌, ◌++◌, length, get_or, take, drop, set, replicate, sym, refl, ap, ◌∙◌, subst, inl, inr, append_assoc, add-one, arith}
+use Rattle.std.proofs.Common.{◌≡◌, ℕ, zero, suc, ◌+◌, ◌-◌, ◌<◌, ◌≤◌, min, Bool, true, false, cond, ◌&&◌, ◌||◌, eqb, ltb, leb, List, [], ◌∷◌, ◌++◌, length, get_or, take, drop, sym, refl, ap, ◌∙◌, subst, inl, inr, arith}
 use mathlib.Core.Option.{none, some}
-use Rattle.std.proofs.lemmas.Bool.{false≢true, eqb-true, leb-true, le-leb, lt-leb, ltb-true, and_from, and_left, and_right, and_parts, or_left, or_cases, cases_lt, cond-true, cond-false}
-use Rattle.std.proofs.lemmas.List.{at_drop_more, at_drop_all, take_more_set, drop-set-lt, drop-drop, append-nil, take-append-drop, length-set}
+use Rattle.std.proofs.lemmas.Bool.{false≢true, eqb-true, leb-true, le-leb, lt-leb, ltb-true, and_from, and_left, and_right, and_parts, or_cases, cases_lt, cond-true, cond-false}
+use Rattle.std.proofs.lemmas.List.{at_drop_all, append-nil, take-append-drop}
+use Rattle.std.specs.List.{list_any}
+use Rattle.std.specs.Option.{option_eq}
+use Rattle.std.specs.Prelude.{Some, None}
 use Rattle.model.specs.declared.names.Name.{Name}
 use Rattle.model.specs.declared.records.Record.{Record}
 use Rattle.model.specs.Names.{top, raised, raise, same_name, holds}
 use Rattle.model.specs.Nets.{within}
 use Rattle.model.specs.Faults.{at_place}
 use Rattle.model.specs.Bottoms.{led, tabled, misfit, sane, all_sane, steady, steady_all}
-use Rattle.model.specs.Looks.{zeroed, filled, Reach}
-
-abbrev pub blank : Record
-blank = record { lo = 0; hi = 0; component = 0; base = 0 }
+use Rattle.model.specs.Looks.{filled, Reach}
 
 -- a table with no misfit is sane
 pub no_misfit : (i : ℕ) (rs : List Record) → misfit i rs ≡ none → all_sane rs ≡ true
@@ -26,17 +26,6 @@ no_misfit i (r ∷ rs) e = go (leb r.lo r.hi) (ltb (r.base + (r.hi - r.lo)) top)
 
 -- checking one record after another
 module _ (rs : List Record) (i : ℕ) (inv : misfit i (drop i rs) ≡ misfit 0 rs) where
-  pub misfit_reversed : i < length rs → (get_or rs i blank).hi < (get_or rs i blank).lo → some (at_place 3 i) ≡ misfit 0 rs
-  misfit_reversed h l = sym (at_drop_more (misfit i) rs i blank h ∙ cond-false _ _ _ (lt-leb _ _ l)) ∙ inv
-
-  pub misfit-past : i < length rs → (get_or rs i blank).lo ≤ (get_or rs i blank).hi → false ≡ ltb ((get_or rs i blank).base + ((get_or rs i blank).hi - (get_or rs i blank).lo)) top → some (at_place 4 i) ≡ misfit 0 rs
-  misfit-past h l e = sym (at_drop_more (misfit i) rs i blank h ∙ cond-true _ _ _ (le-leb _ _ l) ∙ cond-false _ _ _ (sym e)) ∙ inv
-
-  pub misfit_more : i < length rs → (get_or rs i blank).lo ≤ (get_or rs i blank).hi → true ≡ ltb ((get_or rs i blank).base + ((get_or rs i blank).hi - (get_or rs i blank).lo)) top → misfit (i + 1) (drop (i + 1) rs) ≡ misfit 0 rs
-  misfit_more h l e =
-      ap (λ j. misfit j (drop (i + 1) rs)) (add-one i)
-      ∙ sym (at_drop_more (misfit i) rs i blank h ∙ cond-true _ _ _ (le-leb _ _ l) ∙ cond-true _ _ _ (sym e)) ∙ inv
-
   pub misfit_done : length rs ≤ i → none ≡ misfit 0 rs
   misfit_done h = sym (at_drop_all (misfit i) rs i h) ∙ inv
 
@@ -66,71 +55,6 @@ gathering_start a rs before s = record {
   in_range = omega arith;
   nearest = let h = steady_most a rs in omega arith;
 }
-
--- the record at i
-module _ (rs : List Record) (i : ℕ) (h : i < length rs) where
-  pub sane_here : all_sane (drop i rs) ≡ true → (sane (get_or rs i blank) ≡ true) × (all_sane (drop (i + 1) rs) ≡ true)
-  sane_here e = and_parts (sane (get_or rs i blank)) (all_sane (drop (i + 1) rs)) (sym (at_drop_more all_sane rs i blank h) ∙ e)
-
-  module _ (a : ℕ) where
-    tabled_yes : true ≡ within (get_or rs i blank).lo (get_or rs i blank).hi a → tabled (drop i rs) a ≡ led (get_or rs i blank) a ∷ tabled (drop (i + 1) rs) a
-    tabled_yes e = at_drop_more (λ l. tabled l a) rs i blank h ∙ cond-true _ _ _ (sym e)
-
-    tabled_no : false ≡ within (get_or rs i blank).lo (get_or rs i blank).hi a → tabled (drop i rs) a ≡ tabled (drop (i + 1) rs) a
-    tabled_no e = at_drop_more (λ l. tabled l a) rs i blank h ∙ cond-false _ _ _ (sym e)
-
-    module _ (before slots : List Name) (count reach : ℕ) (g : Gathering a rs before slots count reach i) (near : ℕ) (n : near ≡ min reach (steady (get_or rs i blank) a)) where
-      nearer : min near (steady_all (drop (i + 1) rs) a) ≡ steady_all rs a
-      nearer =
-          let e : steady_all (drop i rs) a ≡ min (steady (get_or rs i blank) a) (steady_all (drop (i + 1) rs) a) = at_drop_more (λ l. steady_all l a) rs i blank h in
-          let f = g.nearest in
-          omega (arith, e, f, n)
-
-      pub gathering_no : false ≡ within (get_or rs i blank).lo (get_or rs i blank).hi a → Gathering a rs before slots count near (i + 1)
-      gathering_no e =
-          let s = tabled_no e in
-          let t = g.total in
-          let u = ap length s in
-          record {
-            rest-sane = (sane_here g.rest-sane).1;
-            size = g.size;
-            inside = g.inside;
-            total = omega (arith, t, u);
-            front = ap (λ l. take count slots ++ l) (sym s) ∙ g.front;
-            kept = g.kept;
-            in_range = let r = g.in_range in omega (arith, r, n);
-            nearest = nearer;
-          }
-
-      pub gathering_yes : true ≡ within (get_or rs i blank).lo (get_or rs i blank).hi a → count < length slots
-          → Gathering a rs before (set slots count (led (get_or rs i blank) a)) (count + 1) near (i + 1)
-      gathering_yes e c =
-          let x : Name = led (get_or rs i blank) a in
-          let s = tabled_yes e in
-          let t = g.total in
-          let u : length (tabled (drop i rs) a) ≡ suc (length (tabled (drop (i + 1) rs) a)) = ap length s in
-          let z = length-set slots count x in
-          record {
-            rest-sane = (sane_here g.rest-sane).1;
-            size = z ∙ g.size;
-            inside = omega (arith, z);
-            total = omega (arith, t, u);
-            front = ap (λ l. l ++ tabled (drop (i + 1) rs) a) (take_more_set slots count x c)
-                ∙ append_assoc (take count slots) (x ∷ []) (tabled (drop (i + 1) rs) a)
-                ∙ ap (λ l. take count slots ++ l) (sym s) ∙ g.front;
-            kept = drop-set-lt (count + 1) slots count x (omega arith) ∙ sym (drop-drop 1 count slots) ∙ ap (drop 1) g.kept ∙ drop-drop 1 count before;
-            in_range = let r = g.in_range in omega (arith, r, n);
-            nearest = nearer;
-          }
-
-    pub gathering_short : (before slots : List Name) (count reach : ℕ) → Gathering a rs before slots count reach i → true ≡ within (get_or rs i blank).lo (get_or rs i blank).hi a → count ≡ length slots
-        → (length before < length (tabled rs a)) × (zeroed slots ≡ filled (tabled rs a) before)
-    gathering_short before slots count reach g e c =
-        let u : length (tabled (drop i rs) a) ≡ suc (length (tabled (drop (i + 1) rs) a)) = ap length (tabled_yes e) in
-        let t = g.total in
-        let z = g.size in
-        let l : length before < length (tabled rs a) = omega (arith, u, t, z, c) in
-        (l, ap (λ n. replicate n (record { component = 0; address = 0 })) z ∙ sym (cond-false _ _ _ (lt-leb _ _ l)))
 
 -- up to where the records are steady, each address is led as the first one, raised
 steady-within : (r : Record) (a d : ℕ) → a + d ≤ steady r a → within r.lo r.hi (a + d) ≡ within r.lo r.hi a
@@ -215,23 +139,18 @@ gathering_done a rs before slots count reach i g h =
           ∙ sym (cond-true _ _ _ (le-leb _ _ (subst (λ j. j ≤ length before) k m))),
     )
 
--- whether a name is led to, record after record
-abbrev pub leads : Record → ℕ → Name → Bool
-leads r a x = within r.lo r.hi a && same_name (led r a) x
+-- a name stands in a table's list where some record leads to it
+pub holds_tabled : (a : ℕ) (x : Name) (rs : List Record)
+    → holds (tabled rs a) x ≡ list_any (λ r. option_eq same_name (cond (within r.lo r.hi a) (Some (led r a)) None) (Some x)) rs
+holds_tabled a x [] = refl
+holds_tabled a x (r ∷ rs) = go (within r.lo r.hi a) (holds_tabled a x rs)
+  where
+    go : (b : Bool) {rest : Bool} → holds (tabled rs a) x ≡ rest → holds (cond b (led r a ∷ tabled rs a) (tabled rs a)) x ≡ (option_eq same_name (cond b (Some (led r a)) None) (Some x) || rest)
+    go true h = ap (λ b. same_name (led r a) x || b) h
+    go false h = h
 
-module _ (x : Name) (a : ℕ) (rs : List Record) (i : ℕ) (inv : holds (tabled rs a) x ≡ holds (tabled (drop i rs) a) x) where
-  meets_step : i < length rs → holds (tabled rs a) x ≡ (leads (get_or rs i blank) a x || holds (tabled (drop (i + 1) rs) a) x)
-  meets_step h = inv ∙ at_drop_more (λ l. holds (tabled l a) x) rs i blank h ∙ go (within (get_or rs i blank).lo (get_or rs i blank).hi a)
-    where
-      go : (b : Bool) → holds (cond b (led (get_or rs i blank) a ∷ tabled (drop (i + 1) rs) a) (tabled (drop (i + 1) rs) a)) x ≡ ((b && same_name (led (get_or rs i blank) a) x) || holds (tabled (drop (i + 1) rs) a) x)
-      go true = refl
-      go false = refl
-
-  pub meets_here : i < length rs → true ≡ leads (get_or rs i blank) a x → true ≡ holds (tabled rs a) x
-  meets_here h e = sym (meets_step h ∙ or_left (leads (get_or rs i blank) a x) (holds (tabled (drop (i + 1) rs) a) x) (sym e))
-
-  pub meets_more : i < length rs → false ≡ leads (get_or rs i blank) a x → holds (tabled rs a) x ≡ holds (tabled (drop (i + 1) rs) a) x
-  meets_more h e = meets_step h ∙ ap (λ b. b || holds (tabled (drop (i + 1) rs) a) x) (sym e)
-
-  pub meets_done : length rs ≤ i → false ≡ holds (tabled rs a) x
-  meets_done h = sym (inv ∙ ap (λ l. holds l x) (at_drop_all (λ l. tabled l a) rs i h))
+-- each record of a sane table is sane
+pub sane_at : (rs : List Record) (k : ℕ) (r : Record) → all_sane rs ≡ true → k < length rs → r ≡ get_or rs k r → sane r ≡ true
+sane_at [] k r s l e = absurd (omega arith)
+sane_at (y ∷ ys) zero r s l e = ap sane e ∙ (and_parts (sane y) (all_sane ys) s).0
+sane_at (y ∷ ys) (suc k) r s l e = sane_at ys k r (and_parts (sane y) (all_sane ys) s).1 (omega arith) e

@@ -14,6 +14,18 @@ pub struct Bank {
     pub size: u64,
 }
 
+impl Bank {
+    // The name of an address of its own.
+    fn name_at(&self, address: u64) -> Name
+        ensures { result ≡ record { component = self.now.component; address = address } }
+    {
+        Name {
+            component: self.component,
+            address,
+        }
+    }
+}
+
 impl Space for Bank {
     ghost means = { λ s. record { shape = bottom (banked s.component s.size); sound = tt } };
 
@@ -25,17 +37,14 @@ impl Space for Bank {
         if address >= self.size {
             return Ok((0, u64::MAX));
         }
-        if slots.len() == 0 {
+        let Some(first) = slots.first_mut() else {
             return Err(Fault::BufferShort);
-        }
-        slots[0] = Name {
-            component: self.component,
-            address,
         };
+        *first = self.name_at(address);
         Ok((1, self.size - 1))
     }
 
     fn meets(&self, address: u64, name: Name) -> bool {
-        address < self.size && name.component == self.component && name.address == address
+        address < self.size && name == self.name_at(address)
     }
 }

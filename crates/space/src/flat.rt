@@ -1,6 +1,7 @@
-ghost use Rattle.std.specs.Prelude.{◌≡◌, ◌+◌, ◌-◌, ◌<◌, ◌≤◌, true, ◌&&◌, [], length, OnOk, nat_lt};
-ghost use Rattle.std.proofs.Math.Option.{none};
-ghost use Rattle.model.specs.Names.{top, same_name};
+ghost use Rattle.std.specs.Prelude.{◌≡◌, true, cond, [], length, Some, None, OnOk};
+ghost use Rattle.std.specs.List.{list_any};
+ghost use Rattle.std.specs.Option.{option_eq};
+ghost use Rattle.model.specs.Names.{same_name};
 ghost use Rattle.model.specs.Nets.{within};
 ghost use Rattle.model.specs.Model.{bottom};
 ghost use Rattle.model.specs.Faults.{refusal};
@@ -12,6 +13,7 @@ use crate::Space;
 use crate::slots::wipe;
 use model::faults::Fault;
 use model::names::Name;
+use model::ranges::check_target;
 use model::records::Record;
 
 // A table of records, lent by the caller. Each record that covers an address leads it to its component.
@@ -21,23 +23,26 @@ pub struct FlatTable<'a> {
     ghost valid: { all_sane records.now ≡ true },
 }
 
-// Whether the record covers the address.
-fn covers(row: &Record, address: u64) -> bool
-    ensures { result ≡ within row.now.lo row.now.hi address }
+// Where a record leads an address, if it covers it.
+fn lead(row: &Record, address: u64) -> Option<Name>
+    requires { sane row.now ≡ true }
+    ensures { result ≡ cond (within row.now.lo row.now.hi address) (Some (led row.now address)) None }
 {
-    row.lo <= address && address <= row.hi
-}
-
-// Where a record leads an address that it covers.
-fn lead(row: &Record, address: u64) -> Name
-    requires covered { within row.now.lo row.now.hi address ≡ true }
-    requires fits { sane row.now ≡ true }
-    ensures { result ≡ led row.now address }
-{
-    Name {
+    if !(row.lo..=row.hi).contains(&address) {
+        return None;
+    }
+    Some(Name {
         component: row.component,
         address: row.base + (address - row.lo),
-    }
+    })
+}
+
+// Whether one of the records leads the address to the name.
+fn any_leads(records: &[Record], address: u64, name: Name) -> bool
+    requires { all_sane records.now ≡ true }
+    ensures { result ≡ list_any (λ r. option_eq same_name (cond (within r.lo r.hi address) (Some (led r address)) None) (Some name)) records.now }
+{
+    records.iter().any(|row| lead(row, address) == Some(name))
 }
 
 // The last address up to which the record covers each address as it covers this one.
@@ -53,37 +58,16 @@ fn steady_to(row: &Record, address: u64) -> u64
     }
 }
 
-// Whether a record that covers the address leads it to the name.
-fn leads_to(row: &Record, address: u64, name: Name) -> bool
-    requires { sane row.now ≡ true }
-    ensures { result ≡ (within row.now.lo row.now.hi address && same_name (led row.now address) name) }
-{
-    if !covers(row, address) {
-        return false;
-    }
-    let found = lead(row, address);
-    found.component == name.component && found.address == name.address
-}
-
-// Whether the target of a record whose range rises stays below the top.
-fn fits(row: &Record) -> bool
-    requires { row.now.lo ≤ row.now.hi }
-    ensures { result ≡ nat_lt (row.now.base + (row.now.hi - row.now.lo)) top }
-{
-    row.base.checked_add(row.hi - row.lo).is_some()
-}
-
 // Refuses the first record that fails: 3 where its range is reversed, 4 where its target passes the last address.
 fn check(records: &[Record]) -> Result<(), Fault>
     ensures answer { refusal result ≡ misfit 0 records.now }
     ensures passed { OnOk result (all_sane records.now ≡ true) }
 {
     for (place, row) in records.iter().enumerate() {
-        if row.lo > row.hi {
-            return Err(Fault::RecordReversed { place });
-        }
-        if !fits(row) {
-            return Err(Fault::RecordPastTop { place });
+        match check_target(row.lo, row.hi, row.base) {
+            Ok(()) => {}
+            Err(Fault::RangeReversed) => return Err(Fault::RecordReversed { place }),
+            Err(_) => return Err(Fault::RecordPastTop { place }),
         }
     }
     Ok(())
@@ -119,12 +103,13 @@ impl<'a> Space for FlatTable<'a> {
         let mut count: usize = 0;
         let mut reach = u64::MAX;
         for row in self.records {
-            if covers(row, address) {
+            if let Some(name) = lead(row, address) {
+                // An iterator over the slots would still lend them where they run out, and all are wiped.
                 if count == slots.len() {
                     wipe(slots);
                     return Err(Fault::BufferShort);
                 }
-                slots[count] = lead(row, address);
+                slots[count] = name;
                 count += 1;
             }
             reach = reach.min(steady_to(row, address));
@@ -133,11 +118,6 @@ impl<'a> Space for FlatTable<'a> {
     }
 
     fn meets(&self, address: u64, name: Name) -> bool {
-        for row in self.records {
-            if leads_to(row, address, name) {
-                return true;
-            }
-        }
-        false
+        any_leads(self.records, address, name)
     }
 }

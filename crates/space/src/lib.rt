@@ -22,6 +22,7 @@ pub trait Space {
 
     // Puts the list at an address into the slots, and answers its length together with how far up the same list goes, each name raised by the distance.
     // Where the slots do not hold the list, every one of them is zero, and the answer is 9.
+    // The slots are lent, since there is no heap; so their count stands in the answer.
     fn look(&self, address: u64, slots: &mut [Name]) -> Result<(usize, u64), Fault>
         ensures answer { LookAnswer (lists (means self.now).shape) address (length slots.old) result }
         ensures buffer { slots.new ≡ filled (lists (means self.now).shape address) slots.old };

@@ -7,8 +7,5 @@ use model::names::Name;
 pub fn wipe(slots: &mut [Name])
     ensures { slots.new ≡ zeroed slots.old }
 {
-    slots.fill(Name {
-        component: 0,
-        address: 0,
-    });
+    slots.fill(Name::default());
 }
