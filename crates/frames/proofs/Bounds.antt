@@ -28,7 +28,7 @@ byte_small (h ∷ l ∷ cs) zero = let a = value_small h in let b = value_small 
 byte_small (h ∷ l ∷ cs) (suc i) = byte_small cs i
 
 -- of the answers that ask something first, the granted ones
-granted : {X : Type 0} (b : Bool) (r : Result X Fault) (e : Fault) (x : X) → cond b r (Err e) ≡ Ok x → (b ≡ true) × (r ≡ Ok x)
+pub granted : {X : Type 0} (b : Bool) (r : Result X Fault) (e : Fault) (x : X) → cond b r (Err e) ≡ Ok x → (b ≡ true) × (r ≡ Ok x)
 granted true r e x q = (refl, q)
 granted false r e x q = let z : ◌≡◌ {A = ℕ} 0 1 = cc in absurd (omega arith)
 

@@ -1,7 +1,7 @@
 -- The machine, fed a line, against what the line says.
-use Rattle.std.proofs.Common.{◌≡◌, ℕ, suc, ◌+◌, ◌*◌, ◌%◌, ◌<◌, ◌≤◌, Bool, true, false, cond, ◌&&◌, eqb, ltb, ◌⊎◌, List, [], ◌∷◌, ◌++◌, length, get_or, take, drop, is_some, Some, None, Ok, Err, fold, Option, Result, unwrap_or, sym, refl, ap, ◌∙◌, inl, inr, zero-add, arith, length-append, length-take}
+use Rattle.std.proofs.Common.{◌≡◌, ℕ, suc, ◌+◌, ◌*◌, ◌%◌, ◌<◌, ◌≤◌, Bool, true, false, cond, ◌&&◌, eqb, ltb, ◌⊎◌, List, [], ◌∷◌, ◌++◌, length, take, is_some, Some, None, Ok, Err, fold, Option, Result, unwrap_or, sym, refl, ap, ◌∙◌, inl, inr, zero-add, arith, length-append, length-take}
 use Rattle.std.proofs.lemmas.Bool.{cases_lt, lt-ltb, le-ltb, ne_eqb, cond-true, cond-false}
-use Rattle.std.proofs.lemmas.List.{append_assoc, append-nil, take_all, take-append-le, at_drop_more, at_drop_all}
+use Rattle.std.proofs.lemmas.List.{append_assoc, append-nil, take_all, take-append-le}
 use Rattle.model.specs.declared.faults.Fault.{Fault}
 use Rattle.model.specs.declared.faults.Fault.TheVariants.{NotADigit, OddDigits, KindUnknown, LengthWrong}
 use Rattle.text.specs.Digits.{digit_value}
@@ -119,10 +119,3 @@ read_by_characters ks cs = fed ks cs [] ∙ ap (λ z. cond (all_digits cs) (cond
 -- a reader that is made, fed and finished
 pub line_told : (ks : Kinds) (cs : List ℕ) (s t : Seen) (r : Result Frame Fault) → s ≡ fresh → t ≡ fold after s cs → r ≡ finished ks t → r ≡ line_read ks cs
 line_told ks cs s t r p q e = e ∙ ap (finished ks) (q ∙ ap (λ z. fold after z cs) p) ∙ read_by_characters ks cs
-
--- a line that is fed byte by byte
-pub fed_more : (cs : List ℕ) (i : ℕ) (s t goal : Seen) → i < length cs → t ≡ after s (get_or cs i 0) → fold after s (drop i cs) ≡ goal → fold after t (drop (i + 1) cs) ≡ goal
-fed_more cs i s t goal h e inv = ap (λ z. fold after z (drop (i + 1) cs)) e ∙ sym (at_drop_more (fold after s) cs i 0 h) ∙ inv
-
-pub fed_all : (cs : List ℕ) (i : ℕ) (s goal : Seen) → length cs ≤ i → fold after s (drop i cs) ≡ goal → s ≡ goal
-fed_all cs i s goal h inv = sym (at_drop_all (fold after s) cs i h) ∙ inv

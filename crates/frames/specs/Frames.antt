@@ -59,6 +59,10 @@ of_kind ks k bs = cond (known ks k) (sized (size k) bs (laid k bs)) (Err KindUnk
 abbrev pub frame_read : Kinds → List ℕ → Result Frame Fault
 frame_read ks bs = of_kind ks (slice_index bs 0) bs
 
+-- the number that eight bytes are
+abbrev pub word_read : List ℕ → Result ℕ Fault
+word_read xs = sized 8 xs (word xs 0)
+
 -- the parts of a frame behind its kind, or behind its kind and node
 abbrev pub look_read : List ℕ → Result Frame Fault
 look_read xs = sized 8 xs (Look (word xs 0))

@@ -1,3 +1,4 @@
+pub mod Codes
 pub mod Frames
 pub mod Lines
 pub mod Halves

@@ -13,7 +13,7 @@ pub enum Frame {
 }
 
 // Who reads: a net knows the frames that build it, a program the drops and the look too.
-#[derive(Clone, Copy)]
+#[derive(Clone, Copy, PartialEq, Eq, Debug)]
 pub enum Kinds {
     Net,
     Program,

@@ -2,6 +2,7 @@
 
 // Frames, and the lines of hexadecimal text that they are read from.
 pub mod frame;
+pub mod kind;
 pub mod laws;
 pub mod line;
 pub mod read;

@@ -1,45 +1,41 @@
 ghost use Rattle.std.specs.Prelude.{◌≡◌, length};
-ghost use Rattle.frames.specs.Frames.{word, known, accept_read, map_read, look_read, node_frame_read, frame_read};
+ghost use Rattle.frames.specs.Codes.{code_of};
+ghost use Rattle.frames.specs.Frames.{word_read, known, accept_read, map_read, look_read, node_frame_read, frame_read};
 
 use crate::frame::{Frame, Kinds};
+use crate::kind::Kind;
 use model::blocks::{AcceptBlock, MapBlock};
 use model::faults::Fault;
 
 impl Kinds {
-    // Whether a frame may begin with this byte.
-    fn knows(self, kind: u8) -> bool
-        ensures { result ≡ known self kind }
+    // Whether a frame may be of this kind.
+    fn knows(self, kind: Kind) -> bool
+        ensures { result ≡ known self (code_of kind) }
     {
-        match (self, kind) {
-            (_, 0x41 | 0x4d | 0x4f | 0x45) => true,
-            (Kinds::Program, 0x61 | 0x6d | 0x4c) => true,
-            _ => false,
+        match kind {
+            Kind::Accept | Kind::Map | Kind::Over | Kind::Enter => true,
+            Kind::DropAccept | Kind::DropMap | Kind::Look => self == Kinds::Program,
         }
     }
 }
 
 // The number that eight bytes spell, the high one first.
-fn read_word(bytes: &[u8]) -> u64
-    requires { length bytes.now ≡ 8 }
-    ensures { result ≡ word bytes.now 0 }
+fn read_word(bytes: &[u8]) -> Result<u64, Fault>
+    ensures { result ≡ word_read bytes.now }
 {
-    match bytes {
-        [a, b, c, d, e, f, g, h] => u64::from_be_bytes([*a, *b, *c, *d, *e, *f, *g, *h]),
-        _ => unreachable(),
-    }
+    let bytes = bytes.try_into().map_err(|_| Fault::LengthWrong)?;
+    Ok(u64::from_be_bytes(bytes))
 }
 
 // An accept block: lo and hi.
 fn read_accept(node: u8, numbers: &[u8]) -> Result<AcceptBlock, Fault>
     ensures { result ≡ accept_read node numbers.now }
 {
-    if numbers.len() != 16 {
-        return Err(Fault::LengthWrong);
-    }
+    let (lo, hi) = numbers.split_at_checked(8).ok_or(Fault::LengthWrong)?;
     Ok(AcceptBlock {
         node,
-        lo: read_word(&numbers[0..8]),
-        hi: read_word(&numbers[8..16]),
+        lo: read_word(lo)?,
+        hi: read_word(hi)?,
     })
 }
 
@@ -47,15 +43,17 @@ fn read_accept(node: u8, numbers: &[u8]) -> Result<AcceptBlock, Fault>
 fn read_map(node: u8, numbers: &[u8]) -> Result<MapBlock, Fault>
     ensures { result ≡ map_read node numbers.now }
 {
-    if numbers.len() != 25 {
+    let (block, rest) = numbers.split_at_checked(16).ok_or(Fault::LengthWrong)?;
+    let [destination, base @ ..] = rest else {
         return Err(Fault::LengthWrong);
-    }
+    };
+    let AcceptBlock { node, lo, hi } = read_accept(node, block)?;
     Ok(MapBlock {
         node,
-        lo: read_word(&numbers[0..8]),
-        hi: read_word(&numbers[8..16]),
-        destination: numbers[16],
-        base: read_word(&numbers[17..25]),
+        lo,
+        hi,
+        destination: *destination,
+        base: read_word(base)?,
     })
 }
 
@@ -63,28 +61,24 @@ fn read_map(node: u8, numbers: &[u8]) -> Result<MapBlock, Fault>
 fn read_look(address: &[u8]) -> Result<Frame, Fault>
     ensures { result ≡ look_read address.now }
 {
-    if address.len() != 8 {
-        return Err(Fault::LengthWrong);
-    }
-    Ok(Frame::Look {
-        address: read_word(address),
-    })
+    let address = read_word(address)?;
+    Ok(Frame::Look { address })
 }
 
 // A frame that names a node.
-fn read_node_frame(kind: u8, node: u8, rest: &[u8]) -> Result<Frame, Fault>
-    ensures { result ≡ node_frame_read kind node rest.now }
+fn read_node_frame(kind: Kind, node: u8, rest: &[u8]) -> Result<Frame, Fault>
+    ensures { result ≡ node_frame_read (code_of kind) node rest.now }
 {
     match (kind, rest) {
-        (0x41, numbers) => Ok(Frame::Accept(read_accept(node, numbers)?)),
-        (0x4d, numbers) => Ok(Frame::Map(read_map(node, numbers)?)),
-        (0x61, numbers) => Ok(Frame::DropAccept(read_accept(node, numbers)?)),
-        (0x6d, numbers) => Ok(Frame::DropMap(read_map(node, numbers)?)),
-        (0x4f, [destination]) => Ok(Frame::Over {
+        (Kind::Accept, numbers) => Ok(Frame::Accept(read_accept(node, numbers)?)),
+        (Kind::Map, numbers) => Ok(Frame::Map(read_map(node, numbers)?)),
+        (Kind::DropAccept, numbers) => Ok(Frame::DropAccept(read_accept(node, numbers)?)),
+        (Kind::DropMap, numbers) => Ok(Frame::DropMap(read_map(node, numbers)?)),
+        (Kind::Over, [destination]) => Ok(Frame::Over {
             node,
             destination: *destination,
         }),
-        (0x45, []) => Ok(Frame::Enter { node }),
+        (Kind::Enter, []) => Ok(Frame::Enter { node }),
         _ => Err(Fault::LengthWrong),
     }
 }
@@ -93,15 +87,16 @@ fn read_node_frame(kind: u8, node: u8, rest: &[u8]) -> Result<Frame, Fault>
 pub fn read_frame(kinds: Kinds, bytes: &[u8]) -> Result<Frame, Fault>
     ensures { result ≡ frame_read kinds bytes.now }
 {
-    let [first, ..] = bytes else {
+    let [code, rest @ ..] = bytes else {
         return Err(Fault::KindUnknown);
     };
-    if !kinds.knows(*first) {
+    let kind = Kind::try_from(*code)?;
+    if !kinds.knows(kind) {
         return Err(Fault::KindUnknown);
     }
-    match bytes {
-        [0x4c, address @ ..] => read_look(address),
-        [kind, node, rest @ ..] => read_node_frame(*kind, *node, rest),
+    match (kind, rest) {
+        (Kind::Look, address) => read_look(address),
+        (_, [node, numbers @ ..]) => read_node_frame(kind, *node, numbers),
         _ => Err(Fault::LengthWrong),
     }
 }

@@ -25,7 +25,7 @@ impl LineReader {
     fn keep(&mut self, byte: u8)
         ensures { seen self.new ≡ with_byte (seen self.old) byte }
     {
-        if !self.kept.push(byte) {
+        if self.kept.push(byte).is_err() {
             self.more = true;
         }
     }

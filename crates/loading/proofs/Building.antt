@@ -1,19 +1,14 @@
 -- The frames that a net reads.
-use Rattle.std.proofs.Common.{◌≡◌, ℕ, ◌%◌, Bool, true, false, cond, ◌&&◌, ◌||◌, eqb, ltb, List, length, get_or, Ok, Err, Result, refl, subst, arith}
+use Rattle.std.proofs.Common.{◌≡◌, ℕ, ◌%◌, Bool, true, false, cond, ◌&&◌, ◌||◌, eqb, ltb, List, length, get_or, Ok, refl, subst}
 use Rattle.std.proofs.lemmas.Bool.{false≢true}
-use Rattle.model.specs.declared.faults.Fault.{Fault}
 use Rattle.model.specs.declared.faults.Fault.TheVariants.{NotADigit, OddDigits, KindUnknown, LengthWrong}
 use Rattle.frames.specs.declared.frame.Frame.TheVariants.{Accept, Map, Over, Enter, DropAccept, DropMap, Look}
 use Rattle.frames.specs.declared.frame.Kinds.TheVariants.{Net}
 use Rattle.frames.specs.Frames.{word, for_nets, size, accept_in, map_in, laid, frame_read}
 use Rattle.frames.specs.Lines.{all_digits, bytes_of}
+use Rattle.frames.proofs.Bounds.{granted}
 use Rattle.loading.specs.Loads.{builds}
 use Rattle.loading.specs.Laws.{NetsBuild}
-
--- of the answers that ask something first, the granted ones
-granted : {X : Type 0} (b : Bool) (r : Result X Fault) (e : Fault) (x : X) → cond b r (Err e) ≡ Ok x → (b ≡ true) × (r ≡ Ok x)
-granted true r e x q = (refl, q)
-granted false r e x q = let z : ◌≡◌ {A = ℕ} 0 1 = cc in absurd (omega arith)
 
 laid-builds : (bs : List ℕ) (a m o e da dm : Bool) → (a || (m || (o || e))) ≡ true
     → builds (cond a (Accept (accept_in bs)) (cond m (Map (map_in bs)) (cond o (Over (get_or bs 1 0) (get_or bs 2 0)) (cond e (Enter (get_or bs 1 0)) (cond da (DropAccept (accept_in bs)) (cond dm (DropMap (map_in bs)) (Look (word bs 1)))))))) ≡ true

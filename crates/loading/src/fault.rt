@@ -19,20 +19,18 @@ pub struct LoadFault {
 
 impl fmt::Display for Part {
     fn fmt<W: fmt::Write>(&self, f: &mut fmt::Formatter<W>) -> fmt::Result {
-        match *self {
-            Part::Text => write!(f, "text"),
-            Part::Frame => write!(f, "frame"),
-            Part::Net => write!(f, "net"),
-        }
+        f.write_str(match self {
+            Part::Text => "text",
+            Part::Frame => "frame",
+            Part::Net => "net",
+        })
     }
 }
 
 // The line, the part and the refusal, which tells its number, and the name where it has one.
 impl fmt::Display for LoadFault {
     fn fmt<W: fmt::Write>(&self, f: &mut fmt::Formatter<W>) -> fmt::Result {
-        let line = self.line;
-        let part = self.part;
-        let fault = self.fault;
+        let LoadFault { line, part, fault } = *self;
         write!(f, "line {line}: {part}: refused with {fault}")
     }
 }

@@ -1,9 +1,9 @@
-ghost use Rattle.std.specs.Prelude.{◌≡◌, ◌+◌, ◌≤◌, true, length, drop};
+ghost use Rattle.std.specs.Prelude.{◌≡◌, true};
 ghost use Rattle.model.specs.Nets.{fresh};
 ghost use Rattle.model.specs.Faults.{told};
 ghost use Rattle.blocks.specs.Shape.{kept};
 ghost use Rattle.table.specs.Settling.{Settles};
-ghost use Rattle.loading.specs.Texts.{lines_of, line_length};
+ghost use Rattle.loading.specs.Texts.{lines_of, unended_lem};
 ghost use Rattle.loading.specs.Loads.{builds, edit_of, reading_part_lem, line_loaded, loaded, LineAnswer, LoadAnswer};
 
 use crate::fault::{LoadFault, Part};
@@ -32,7 +32,7 @@ fn apply(table: &mut Table, frame: Frame) -> Result<(), Fault>
         Frame::Map(block) => table.map(block),
         Frame::Over { node, destination } => table.over(node, destination),
         Frame::Enter { node } => table.enter(node),
-        _ => unreachable(),
+        _ => unreachable!(),
     }
 }
 
@@ -40,37 +40,27 @@ fn apply(table: &mut Table, frame: Frame) -> Result<(), Fault>
 fn load_line(table: &mut Table, number: usize, line: &[u8]) -> Result<(), LoadFault>
     ensures { LineAnswer (line_loaded number (kept table.old.blocks) line.now) (kept table.new.blocks) result }
 {
-    match read_line(Kinds::Net, line) {
-        Ok(frame) => match apply(table, frame) {
-            Ok(()) => Ok(()),
-            Err(fault) => Err(LoadFault {
-                line: number,
-                part: Part::Net,
-                fault,
-            }),
-        },
-        Err(fault) => Err(LoadFault {
-            line: number,
-            part: reading_part(fault),
-            fault,
-        }),
-    }
+    let frame = read_line(Kinds::Net, line).map_err(|fault| LoadFault {
+        line: number,
+        part: reading_part(fault),
+        fault,
+    })?;
+    apply(table, frame).map_err(|fault| LoadFault {
+        line: number,
+        part: Part::Net,
+        fault,
+    })?;
+    Ok(())
 }
 
-// Where the line that begins at start ends: at its line feed, or at the end of the text.
-fn line_end(text: &[u8], start: usize) -> usize
-    requires { start ≤ length text.now }
-    ensures is { result ≡ start + line_length (drop start text.now) }
-    ensures within { (start ≤ result) × (result ≤ length text.now) }
+// A line without its line feed, which the last one may lack.
+fn unended(line: &[u8]) -> &[u8]
+    ensures { result.now ≡ unended_lem line.now }
 {
-    let mut end = start;
-    while end < text.len() {
-        if text[end] == b'\n' {
-            return end;
-        }
-        end += 1;
+    match line {
+        [line @ .., b'\n'] => line,
+        line => line,
     }
-    end
 }
 
 // The table that a text builds, if every line is granted, or the first line that is not.
@@ -78,16 +68,8 @@ pub fn load(group: u16, text: &[u8]) -> Result<Table, LoadFault>
     ensures { LoadAnswer (loaded 1 (fresh group) (lines_of text.now)) result }
 {
     let mut table = Table::new(group);
-    let mut start = 0;
-    let mut number = 1;
-    while start < text.len() {
-        let end = line_end(text, start);
-        match load_line(&mut table, number, &text[start..end]) {
-            Ok(()) => {}
-            Err(fault) => return Err(fault),
-        }
-        number += 1;
-        start = end + 1;
+    for (index, line) in text.split_inclusive(|byte| *byte == b'\n').enumerate() {
+        load_line(&mut table, index + 1, unended(line))?;
     }
     Ok(table)
 }

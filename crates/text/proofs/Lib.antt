@@ -1,5 +1,5 @@
 pub mod Spelling
 pub mod Columns
 pub mod Backs
-pub mod Peels
 pub mod Naming
+pub mod Peels

@@ -1,4 +1,4 @@
-use Rattle.std.specs.Prelude.{ℕ, zero, suc, ◌+◌, ◌*◌, ◌/◌, ◌^◌, cond, ◌&&◌, List, [], ◌∷◌, length, Some, None, Option, nat_le}
+use Rattle.std.specs.Prelude.{◌≡◌, ℕ, zero, suc, ◌+◌, ◌≤◌, ◌++◌, String, string_bytes, string_len, string_capacity, ◌*◌, ◌/◌, ◌^◌, cond, ◌&&◌, List, [], ◌∷◌, length, Some, None, Option, nat_le}
 use Rattle.text.specs.Digits.{digit_value, digit_code}
 
 abbrev pub and_then : Option ℕ → (ℕ → Option ℕ) → Option ℕ
@@ -18,3 +18,7 @@ number_of cs = cond (nat_le 1 (length cs) && nat_le (length cs) 16) (read_on 0 c
 unfoldable pub spelled : ℕ → ℕ → List ℕ
 spelled zero v = []
 spelled (suc k) v = digit_code (v / 16 ^ k) ∷ spelled k v
+
+-- a text with these bytes, n of them, behind its own, and no less room than before
+abbrev pub Appended : {Z : Type 0} → ℕ → List ℕ → String Z → String Z → Type 0
+Appended n bs before after = (string_bytes after ≡ string_bytes before ++ bs) × (string_len after ≡ string_len before + n) × (string_capacity before ≤ string_capacity after)

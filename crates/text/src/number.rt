@@ -1,6 +1,6 @@
-ghost use Rattle.std.specs.Prelude.{◌≡◌, ◌+◌, ◌*◌, ◌/◌, ◌%◌, ◌^◌, ◌<◌, ◌≤◌, ◌++◌, length, IfSome, is_ok, if◌then◌else◌, string_bytes, string_len, string_capacity};
+ghost use Rattle.std.specs.Prelude.{◌≡◌, ◌+◌, ◌*◌, ◌/◌, ◌%◌, ◌^◌, ◌<◌, ◌≤◌, [], ◌∷◌, ◌++◌, length, IfSome, is_ok, if◌then◌else◌, string_bytes, string_len, string_capacity};
 ghost use Rattle.text.specs.Digits.{digit_code};
-ghost use Rattle.text.specs.Numbers.{number_of, spelled};
+ghost use Rattle.text.specs.Numbers.{number_of, spelled, Appended};
 
 use crate::digit::{digit, digit_char};
 use std::alloc::AllocError;
@@ -8,13 +8,15 @@ use std::alloc::AllocError;
 const MOST_DIGITS: usize = 16;
 
 // The number that 1 to 16 hexadecimal digits spell, with no sign, space or prefix.
+#[tactic(auto, unfolding(crate::specs::Numbers::read_on))]
 pub fn read_number(digits: &[u8]) -> Option<u64>
     ensures value { result ≡ number_of digits.now }
     ensures bound { IfSome result (λ n. n < 16 ^ length digits.now) }
 {
-    if digits.is_empty() || digits.len() > MOST_DIGITS {
+    if !(1..=MOST_DIGITS).contains(&digits.len()) {
         return None;
     }
+    // A loop and no fold, whose closure would not know how many digits came before, and so not that the value fits.
     let mut value: u64 = 0;
     for byte in digits {
         let low = digit(*byte as char)?;
@@ -23,8 +25,8 @@ pub fn read_number(digits: &[u8]) -> Option<u64>
     Some(value)
 }
 
-// The digit at a place, counted from the lowest, 0.
-fn digit_at(value: u64, place: usize) -> char
+// The digit at a place, counted from the lowest, 0; above a value's digits stand zeros.
+pub fn digit_at(value: u64, place: usize) -> char
     ensures { result ≡ digit_code (value / 16 ^ place) }
 {
     if place < MOST_DIGITS {
@@ -34,18 +36,24 @@ fn digit_at(value: u64, place: usize) -> char
     }
 }
 
+// Appends a character where there is room for it.
+pub(crate) fn append_char(out: &mut String, c: char)
+    requires ascii { c < 128 }
+    requires room { string_len out.old + 1 ≤ string_capacity out.old }
+    ensures { Appended 1 (c ∷ []) out.old out.new }
+{
+    out.push(c).unwrap();
+}
+
 // Appends where there is room for it.
+#[tactic(auto, unfolding(crate::specs::Numbers::spelled))]
 pub(crate) fn append_number(out: &mut String, value: u64, digits: usize)
     requires { string_len out.old + digits ≤ string_capacity out.old }
-    ensures bytes { string_bytes out.new ≡ string_bytes out.old ++ spelled digits value }
-    ensures len { string_len out.new ≡ string_len out.old + digits }
-    ensures capacity { string_capacity out.old ≤ string_capacity out.new }
+    ensures { Appended digits (spelled digits value) out.old out.new }
 {
+    // A `for`: of what a closure had appended a proof would know nothing.
     for place in (0..digits).rev() {
-        match out.push(digit_at(value, place)) {
-            Ok(()) => {}
-            Err(_) => unreachable(),
-        }
+        append_char(out, digit_at(value, place));
     }
 }
 

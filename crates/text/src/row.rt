@@ -2,7 +2,7 @@ ghost use Rattle.std.specs.Prelude.{◌≡◌, ◌+◌, ◌^◌, ◌<◌, ◌≤
 ghost use Rattle.text.specs.Rows.{width, space_at, fault_at, checked, row_read, address_read, number_at, row_text, name_text, names_text, found_text};
 
 use crate::digit::digit;
-use crate::number::{append_number, read_number};
+use crate::number::{append_char, append_number, read_number};
 use model::names::Name;
 use model::records::Record;
 use std::alloc::AllocError;
@@ -39,52 +39,55 @@ enum Layout {
     Address,
 }
 
-fn line_width(layout: Layout) -> usize
-    ensures { result ≡ width layout }
-{
-    match layout {
-        Layout::Row => 59,
-        Layout::Address => 16,
-    }
-}
-
-fn is_space_column(layout: Layout, index: usize) -> bool
-    ensures { result ≡ space_at layout index }
-{
-    match layout {
-        Layout::Row => index == 16 || index == 33 || index == 42,
-        Layout::Address => false,
-    }
-}
-
-fn check_column(layout: Layout, index: usize, byte: u8) -> Result<(), RowFault>
-    requires { index < 59 }
-    ensures { result ≡ fault_at layout index byte }
-{
-    let column = index + 1;
-    if is_space_column(layout, index) {
-        if byte == b' ' {
-            return Ok(());
+impl Layout {
+    // How many characters a line has.
+    fn line_len(self) -> usize
+        ensures { result ≡ width self }
+    {
+        match self {
+            Layout::Row => 59,
+            Layout::Address => 16,
         }
-        return Err(RowFault::NotASpace { column });
     }
-    match digit(byte as char) {
-        Some(_) => Ok(()),
-        None => Err(RowFault::NotADigit { column }),
-    }
-}
 
-// The first fault of a line, if any.
-fn check_line(layout: Layout, line: &[u8]) -> Result<(), RowFault>
-    ensures { result ≡ checked layout line.now }
-{
-    if line.len() != line_width(layout) {
-        return Err(RowFault::Length { found: line.len() });
+    // Whether the column, from 0, holds a space; the others hold digits.
+    fn is_space(self, index: usize) -> bool
+        ensures { result ≡ space_at self index }
+    {
+        match self {
+            Layout::Row => matches!(index, 16 | 33 | 42),
+            Layout::Address => false,
+        }
     }
-    for (index, byte) in line.iter().enumerate() {
-        check_column(layout, index, *byte)?;
+
+    fn check_column(self, index: usize, byte: u8) -> Result<(), RowFault>
+        requires { index < 59 }
+        ensures { result ≡ fault_at self index byte }
+    {
+        let column = index + 1;
+        if self.is_space(index) {
+            if byte != b' ' {
+                return Err(RowFault::NotASpace { column });
+            }
+        } else {
+            digit(byte as char).ok_or(RowFault::NotADigit { column })?;
+        }
+        Ok(())
     }
-    Ok(())
+
+    // The first fault of a line, if any.
+    #[tactic(auto, unfolding(crate::specs::Rows::faults_from))]
+    fn check_line(self, line: &[u8]) -> Result<(), RowFault>
+        ensures { result ≡ checked self line.now }
+    {
+        if line.len() != self.line_len() {
+            return Err(RowFault::Length { found: line.len() });
+        }
+        for (index, byte) in line.iter().enumerate() {
+            self.check_column(index, *byte)?;
+        }
+        Ok(())
+    }
 }
 
 // The number in so many columns from one on, which hold digits by now.
@@ -100,7 +103,7 @@ fn field(line: &[u8], from: usize, count: usize) -> u64
 pub fn read_row(line: &[u8]) -> Result<Record, RowFault>
     ensures { result ≡ row_read line.now }
 {
-    check_line(Layout::Row, line)?;
+    Layout::Row.check_line(line)?;
     let lo = field(line, 0, 16);
     let hi = field(line, 17, 16);
     let component = field(line, 34, 8) as u32;
@@ -117,21 +120,8 @@ pub fn read_row(line: &[u8]) -> Result<Record, RowFault>
 pub fn read_address(line: &[u8]) -> Result<u64, RowFault>
     ensures { result ≡ address_read line.now }
 {
-    check_line(Layout::Address, line)?;
+    Layout::Address.check_line(line)?;
     Ok(field(line, 0, 16))
-}
-
-// Appends a space where there is room for it.
-fn append_space(out: &mut String)
-    requires { string_len out.old + 1 ≤ string_capacity out.old }
-    ensures bytes { string_bytes out.new ≡ string_bytes out.old ++ (32 ∷ []) }
-    ensures len { string_len out.new ≡ string_len out.old + 1 }
-    ensures capacity { string_capacity out.old ≤ string_capacity out.new }
-{
-    match out.push(' ') {
-        Ok(()) => {}
-        Err(_) => unreachable(),
-    }
 }
 
 // Appends a record as a line of a table, with no line feed; without memory nothing changes.
@@ -140,11 +130,11 @@ pub fn push_row(out: &mut String, row: Record) -> Result<(), AllocError>
 {
     out.reserve(59)?;
     append_number(out, row.lo, 16);
-    append_space(out);
+    append_char(out, ' ');
     append_number(out, row.hi, 16);
-    append_space(out);
+    append_char(out, ' ');
     append_number(out, u64::from(row.component), 8);
-    append_space(out);
+    append_char(out, ' ');
     append_number(out, row.base, 16);
     Ok(())
 }
@@ -155,7 +145,7 @@ pub fn push_name(out: &mut String, name: Name) -> Result<(), AllocError>
 {
     out.reserve(25)?;
     append_number(out, u64::from(name.component), 8);
-    append_space(out);
+    append_char(out, ' ');
     append_number(out, name.address, 16);
     Ok(())
 }
@@ -176,10 +166,8 @@ pub fn push_found(line: &mut String, names: &[Name]) -> Result<(), AllocError>
     ensures { OnOk result (string_bytes line.new ≡ string_bytes line.old ++ found_text names.now) }
 {
     if names.is_empty() {
-        line.push_str(" none")?;
-        return Ok(());
+        return line.push_str(" none");
     }
     line.push_str(" =")?;
-    push_names(line, names)?;
-    Ok(())
+    push_names(line, names)
 }

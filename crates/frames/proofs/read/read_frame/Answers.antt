@@ -1,12 +1,13 @@
-use Rattle.std.proofs.Common.{◌≡◌, ◌≤◌, length, get_or, arith, rules, ltb-false, ltb-true}
-use Rattle.frames.proofs.Laying.{node_frame, no_frame}
+use Rattle.std.proofs.Common.{sym, ◌∙◌}
+use Rattle.frames.proofs.Laying.{node_frame, look_frame}
 use Rattle.frames.proofs.read.read_frame.Goals as goal
 
-pub returns-in_default : goal.returns-in_default
-returns-in_default c = no_frame c.args.kinds c.args.bytes.now (omega (arith, ltb-true, ltb-false))
+pub returns-in_default-len1-up : goal.returns-in_default-len1-up
+returns-in_default-len1-up c =
+    node_frame c.args.kinds c.args.bytes.now c.in_ok-kind.kind c.read_node_frame.result c.in_default-len1-up.len_at_least (sym c.try_from.ensures ∙ c.in_ok-kind.was)
+    c.if-not-knows.ensures c.in_default-len1-up.not-Look-0 c.read_node_frame.ensures
 
-pub returns-in-len2-up : goal.returns-in-len2-up
-returns-in-len2-up c =
-    let n : 2 ≤ length c.args.bytes.now = omega (arith, ltb-true, ltb-false) in
-    let k : (get_or c.args.bytes.now 0 0 ≡ 76 → ⊥) = search rules in
-    node_frame c.args.kinds c.args.bytes.now c.read_node_frame.result n c.if-not-knows.ensures k c.read_node_frame.ensures
+pub returns-in-Look-default : goal.returns-in-Look-default
+returns-in-Look-default c =
+    look_frame c.args.kinds c.args.bytes.now c.in_ok-kind.kind c.read_look.result c.in-len1-up.len_at_least (sym c.try_from.ensures ∙ c.in_ok-kind.was)
+    c.in-Look-default.is-0 c.if-not-knows.ensures c.read_look.ensures
