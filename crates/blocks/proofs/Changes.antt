@@ -1,5 +1,5 @@
 -- One more element, and one less, of a list of which no two are the same.
-use Rattle.std.proofs.Common.{◌≡◌, ℕ, ◌<◌, ◌≤◌, Bool, true, false, cond, not, ◌||◌, eqb, ltb, ◌⊎◌, List, [], ◌∷◌, ◌++◌, map, length, get_or, set, replicate, Result, sym, refl, ap, ◌∙◌, subst, inl, inr, arith}
+use Rattle.std.proofs.Common.{◌≡◌, ℕ, ◌<◌, Bool, true, false, cond, not, ◌||◌, eqb, ltb, List, [], ◌∷◌, ◌++◌, map, length, get_or, set, replicate, Result, sym, refl, ap, ◌∙◌, subst, inl, inr, arith}
 use mathlib.Core.Option.{none}
 use Rattle.std.proofs.lemmas.List.{length-map, map_push, get_or-set_same, get_or-set_other, get_or-replicate, get_or_past, length-replicate}
 use Rattle.std.proofs.lemmas.Bool.{and_from, and_parts, or_parts, not-true, cases_eq, cases_lt, eq-eqb, ne_eqb}
@@ -106,17 +106,18 @@ module _ {X Y : Type 0} (f : X → Y) where
         go true = ap (apart same) (without-map (same (f x)) xs) ∙ apart-without same (same (f x)) (map f xs) a
         go false = a
 
--- an overlay that is set stays in range
-pub all_set : (xs : List ℕ) (i v most : ℕ) → i < length xs → v ≤ most → ((k : ℕ) → get_or xs k 0 ≤ most) → (k : ℕ) → get_or (set xs i v) k 0 ≤ most
-all_set xs i v most h l all k = go (cases_eq k i)
-  where
-    go : (k ≡ i) ⊎ (k ≡ i → ⊥) → get_or (set xs i v) k 0 ≤ most
-    go (inl e) = subst (λ z. get_or (set xs i v) z 0 ≤ most) (sym e) (let p = get_or-set_same xs i v 0 h in omega arith)
-    go (inr ne) = let p = get_or-set_other xs i k v 0 ne in let q = all k in omega arith
+-- a fact of every element stays where one is set for which it holds
+module _ {X : Type 0} (P : X → Type 0) (blank : X) where
+  pub all_set : (xs : List X) (i : ℕ) (x : X) → i < length xs → P x → ((k : ℕ) → P (get_or xs k blank)) → (k : ℕ) → P (get_or (set xs i x) k blank)
+  all_set xs i x h p all k =
+      elim (cases_eq k i) [
+        | inl e ↦ subst P (sym (ap (λ j. get_or (set xs i x) j blank) e ∙ get_or-set_same xs i x blank h)) p
+        | inr ne ↦ subst P (sym (get_or-set_other xs i k x blank ne)) (all k)
+      ]
 
-pub all_same : (n v : ℕ) (k : ℕ) → get_or (replicate n v) k 0 ≤ v
-all_same n v k = go (cases_lt k n)
-  where
-    go : (k < n) ⊎ (n ≤ k) → get_or (replicate n v) k 0 ≤ v
-    go (inl h) = let p = get_or-replicate n k v 0 h in omega arith
-    go (inr h) = let l = length-replicate n v in let p = get_or_past (replicate n v) k 0 (omega arith) in omega arith
+  pub all_same : (n : ℕ) → P blank → (k : ℕ) → P (get_or (replicate n blank) k blank)
+  all_same n p k =
+      elim (cases_lt k n) [
+        | inl h ↦ subst P (sym (get_or-replicate n k blank blank h)) p
+        | inr h ↦ subst P (sym (get_or_past (replicate n blank) k blank (let l = length-replicate n blank in omega arith))) p
+      ]

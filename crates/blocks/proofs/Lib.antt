@@ -1,3 +1,4 @@
 pub mod Scans
 pub mod Asking
 pub mod Changes
+pub mod Sending

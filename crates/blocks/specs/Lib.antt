@@ -1,4 +1,5 @@
 pub mod Apart
+pub mod Destinations
 pub mod Shape
 pub mod Formed
 pub mod Found

@@ -3,7 +3,7 @@ ghost use Rattle.model.specs.Edits.{same_accept, same_map};
 
 use crate::stored::{Accepted, Mapped};
 
-// What a net keeps no two of that are alike.
+// What a net keeps no two of that are alike. Beside `PartialEq`, since its law is in the words of the reference model.
 pub trait Alike: Copy {
     ghost alike: { Self → Self → Bool };
 
@@ -15,8 +15,7 @@ impl Alike for Accepted {
     ghost alike = { λ x y. same_accept x.block y.block };
 
     fn is_like(&self, other: &Accepted) -> bool {
-        let (b, c) = (self.block, other.block);
-        b.node == c.node && b.lo == c.lo && b.hi == c.hi
+        self.block == other.block
     }
 }
 
@@ -24,11 +23,6 @@ impl Alike for Mapped {
     ghost alike = { λ x y. same_map x.block y.block };
 
     fn is_like(&self, other: &Mapped) -> bool {
-        let (b, c) = (self.block, other.block);
-        b.node == c.node
-            && b.lo == c.lo
-            && b.hi == c.hi
-            && b.destination == c.destination
-            && b.base == c.base
+        self.block == other.block
     }
 }

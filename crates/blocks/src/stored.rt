@@ -1,11 +1,12 @@
-ghost use Rattle.std.specs.Prelude.{◌≡◌, ℕ, ◌+◌, ◌-◌, ◌^◌, ◌<◌, ◌≤◌, true, map as each, length, slice_index, ⊤};
+ghost use Rattle.std.specs.Prelude.{◌≡◌, ℕ, ◌+◌, ◌-◌, ◌^◌, ◌<◌, ◌≤◌, true, map as each, length, slice_index_or, None};
 ghost use Rattle.lists.specs.Held.{held};
 ghost use Rattle.model.specs.Edits.{same_accept, same_map};
 ghost use Rattle.blocks.specs.Apart.{apart};
+ghost use Rattle.blocks.specs.Destinations.{OverlayKnown};
 
+use crate::destination::Destination;
 use lists::ArrayVec;
 use model::blocks::{AcceptBlock, MapBlock};
-use std::alloc::AllocError;
 
 // An accept block that a net may keep.
 #[derive(Clone, Copy)]
@@ -22,23 +23,12 @@ pub struct Mapped {
 }
 
 // What a net keeps: of each kind no two blocks are the same. Nothing is said of its walks.
+#[derive(Clone, Copy)]
 pub struct Blocks {
     pub group: u16,
     pub accepts: ArrayVec<Accepted, 64>,
     pub maps: ArrayVec<Mapped, 128>,
-    pub overlays: [u8; 32],
+    pub overlays: [Option<Destination>; 32],
     pub entry: u8,
-    ghost valid: { (entry < 32) × ((k : ℕ) → slice_index overlays k ≤ 33) × (apart same_accept (each (λ x. x.block) (held accepts)) ≡ true) × (apart same_map (each (λ x. x.block) (held maps)) ≡ true) × (length overlays ≡ 32) },
+    ghost valid: { (entry < 32) × ((k : ℕ) → OverlayKnown (slice_index_or overlays k None)) × (apart same_accept (each (λ x. x.block) (held accepts)) ≡ true) × (apart same_map (each (λ x. x.block) (held maps)) ≡ true) × (length overlays ≡ 32) },
 }
-
-impl Clone for Blocks {
-    ghost is_clone = { λ x y. y ≡ x };
-
-    ghost is_infallible = { λ _. ⊤ };
-
-    fn clone(&self) -> Result<Blocks, AllocError> {
-        Ok(*self)
-    }
-}
-
-impl Copy for Blocks {}

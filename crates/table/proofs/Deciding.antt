@@ -1,12 +1,13 @@
 -- An edit's answer, put together from its first questions and the one about walks.
-use Rattle.std.proofs.Common.{◌≡◌, ℕ, true, false, cond, ◌⊎◌, [], length, get_or, set, Ok, Err, Result, sym, refl, ap, ◌∙◌, subst, inl, inr}
+use Rattle.std.proofs.Common.{◌≡◌, ℕ, true, false, cond, ◌⊎◌, List, [], map, length, get_or, set, Ok, Err, Result, sym, refl, ap, ◌∙◌, subst, inl, inr}
+use Rattle.std.proofs.Common.{Option as Maybe, None, Some, is_none}
 use mathlib.Core.Option.{Option, none, some}
 use Rattle.std.proofs.lemmas.Bool.{cases_lt, cases_eq}
 use Rattle.std.proofs.lemmas.List.{get_or-set_same, get_or-set_other, set_past}
 use Rattle.model.specs.declared.blocks.AcceptBlock.{AcceptBlock}
 use Rattle.model.specs.declared.blocks.MapBlock.{MapBlock}
 use Rattle.model.specs.declared.faults.Fault.{Fault}
-use Rattle.model.specs.Faults.{Refusal, told, refusal, at_name}
+use Rattle.model.specs.Faults.{Refusal, refusal, at_name}
 use Rattle.model.specs.Nets.{Kept, fresh}
 use Rattle.model.specs.Walks.{Bounded, FewerSteps, first_overfull_lem}
 use Rattle.model.specs.Model.{bottom}
@@ -14,7 +15,12 @@ use Rattle.model.specs.Edits.{NetEdit, accept, over, drop_map, enter, asked, the
 use Rattle.model.proofs.Bounds.{asked-walked, walked-asked, walked_bound, bound_walked}
 use Rattle.model.proofs.Fewer.{less_bound, some_overlays, map_dropped}
 use Rattle.model.proofs.Keeping.{accept_bound, enter_bound, fresh_sound}
+use Rattle.blocks.specs.declared.destination.Destination.{Destination}
+use Rattle.blocks.specs.declared.stored.Blocks.{Blocks}
+use Rattle.blocks.specs.Destinations.{overlay_number}
+use Rattle.blocks.specs.Shape.{kept}
 use Rattle.blocks.specs.Outcomes.{Decided, Tried}
+use Rattle.blocks.proofs.Sending.{overlay_at}
 use Rattle.blocks.proofs.Asking.{settled-holds}
 use Rattle.table.specs.Settling.{Settles}
 
@@ -36,12 +42,7 @@ module _ (k : Kept) (e : NetEdit) where
   settles_at_once after r a t =
       decided after r (asked (net_questions k e)) (then_nothing (asked (net_questions k e)) ∙ ap (λ b. then (asked (net_questions k e)) (cond b (walks_bounded (net_after k e)) none)) (sym a)) t
 
-  -- one that does, refused before it comes to that
-  pub settles_early : (new : Kept) (f : Fault) (r : Result (Unit {0}) Fault) → r ≡ Err f → Tried k new e (Err f) → Settles k k e r
-  settles_early new f r is t =
-      decided k r (some (told f)) (ap (λ o. then o (cond (asks_walks e) (walks_bounded (net_after k e)) none)) t.0) (ap refusal is, refl)
-
-  -- and one that has come to it
+  -- one that does, and has come to it
   pub settles_last : (new after : Kept) (u : Unit {0}) (r : Result (Unit {0}) Fault) → asks_walks e ≡ true → Tried k new e (Ok u) → Decided (walks_bounded new) new k after r → Settles k after e r
   settles_last new after u r a t d =
       let n : new ≡ net_after k e = t.1 ∙ ap (λ o. (settled o (net_after k e) k).1) (sym t.0) in
@@ -73,9 +74,17 @@ cleared_bound k new n d u is t b = fewer_bound k (over n 33) new u (subst (λ z.
           | inr e ↦ inl (get_or-set_other k.overlays n i 33 33 e)
         ]
 
+-- a node without an overlay, as the reference model has it
+bare_number : (xs : List (Maybe Destination)) (i : ℕ) → true ≡ is_none (get_or xs i None) → get_or (map overlay_number xs) i 33 ≡ 33
+bare_number xs i h = overlay_at xs i ∙ go (get_or xs i None) h
+  where
+    go : (o : Maybe Destination) → true ≡ is_none o → overlay_number o ≡ 33
+    go None h = refl
+    go (Some d) h = absurd cc
+
 -- a map block less, at a node without an overlay
-pub dropped_bound : (k new : Kept) (x : MapBlock) (u : Unit {0}) → Tried k new (drop_map x) (Ok u) → get_or k.overlays x.node 33 ≡ 33 → Bounded k → Bounded new
-dropped_bound k new x u t bare b = fewer_bound k (drop_map x) new u t (map_dropped k x bare) b
+pub dropped_bound : (t : Blocks) (new : Kept) (x : MapBlock) (u : Unit {0}) → Tried (kept t) new (drop_map x) (Ok u) → true ≡ is_none (get_or t.overlays x.node None) → Bounded (kept t) → Bounded new
+dropped_bound t new x u d bare b = fewer_bound (kept t) (drop_map x) new u d (map_dropped (kept t) x (bare_number t.overlays x.node bare)) b
 
 keeps : (k new after : Kept) (q : Option Refusal) (r : Result (Unit {0}) Fault) → Decided q new k after r → Bounded new → Bounded k → Bounded after
 keeps k new after q r d n h = subst Bounded (sym d.1) (settled-holds Bounded q new k (λ e. n) h)

@@ -1,4 +1,4 @@
-ghost use Rattle.std.specs.Prelude.{◌≡◌, true, slice_index_or};
+ghost use Rattle.std.specs.Prelude.{◌≡◌, true, None, is_none, slice_index_or};
 ghost use Rattle.model.specs.Edits.{accept as Accept, map_to as MapTo, over as Over, drop_accept as DropAccept, drop_map as DropMap, enter as Enter, walks_bounded};
 ghost use Rattle.model.specs.Walks.{bounded};
 ghost use Rattle.blocks.specs.Shape.{kept};
@@ -13,12 +13,18 @@ use quicksearch::overfull::first_overfull;
 
 // Whether a node has no overlay.
 fn is_bare(blocks: &Blocks, node: u8) -> bool
-    ensures { result ≡ true → slice_index_or blocks.now.overlays node 33 ≡ 33 }
+    ensures { result ≡ is_none (slice_index_or blocks.now.overlays node None) }
 {
-    node < 32 && blocks.overlays[node as usize] == 33
+    blocks
+        .overlays
+        .get(node as usize)
+        .copied()
+        .flatten()
+        .is_none()
 }
 
 // An edit that may make walks longer is made on a copy, which is kept where its walks are bounded. A refused edit changes nothing.
+// Three lines in each: a function that took the step as a closure would have to state what it does to the copy, and would be no shorter.
 impl Table {
     // The node accepts the addresses of one more block. No walk gets longer.
     pub fn accept(&mut self, block: AcceptBlock) -> Result<(), Fault>
@@ -83,19 +89,17 @@ impl Table {
         requires { bounded (kept new) ≡ true }
         ensures { self.new.blocks ≡ new }
     {
-        *self = Table { blocks: new };
+        self.blocks = new;
     }
 
     // Keeps new blocks, unless one of their walks meets more than 64 names.
     fn settle(&mut self, new: Blocks) -> Result<(), Fault>
         ensures { Decided (walks_bounded (kept new)) (kept new) (kept self.old.blocks) (kept self.new.blocks) result }
     {
-        match first_overfull(&new) {
-            Some((node, address)) => Err(Fault::WalkTooLong { node, address }),
-            None => {
-                self.blocks = new;
-                Ok(())
-            }
+        if let Some((node, address)) = first_overfull(&new) {
+            return Err(Fault::WalkTooLong { node, address });
         }
+        self.keep(new);
+        Ok(())
     }
 }

@@ -1,21 +1,23 @@
 -- The contracts of the walk's calls, put together.
-use Rattle.std.proofs.Common.{◌≡◌, ℕ, suc, ◌+◌, ◌-◌, ◌<◌, ◌≤◌, min, Bool, true, false, cond, ltb, List, [], ◌∷◌, ◌++◌, length, Some, None, Option, sym, refl, ap, ◌∙◌, subst, arith}
+use Rattle.std.proofs.Common.{◌≡◌, ℕ, suc, ◌-◌, ◌<◌, ◌≤◌, min, Bool, true, false, cond, List, [], ◌∷◌, ◌++◌, length, Some, None, Option, sym, refl, ap, ◌∙◌, subst, arith}
 use mathlib.Core.Option.{none}
-use Rattle.std.proofs.lemmas.Bool.{eq-eqb, ne_eqb, lt-ltb}
 use Rattle.std.proofs.lemmas.List.{append_assoc, append-nil, length-append}
 use Rattle.lists.specs.Held.{held}
 use Rattle.model.specs.Names.{top}
-use Rattle.model.specs.Nets.{Kept, Spot, node, below, spot, accepting, steps}
+use Rattle.model.specs.Nets.{Kept, Spot, node, below, accepting, steps}
 use Rattle.model.specs.Model.{own}
 use Rattle.model.specs.Walks.{trace, onward, joined}
 use Rattle.model.proofs.Walking.{trace-++, bind, after as followed}
+use Rattle.blocks.specs.declared.destination.Destination.{Destination}
+use Rattle.blocks.specs.declared.destination.Destination.TheVariants.{Node, Below}
+use Rattle.blocks.specs.Destinations.{spot_of}
 use Rattle.walks.specs.declared.notes.Note.{Note}
 use Rattle.walks.specs.declared.notes.Note.TheVariants.{Own, Arrival}
 use Rattle.walks.specs.declared.notes.Notes.{Notes}
 use Rattle.walks.specs.Spans.{reach, spans}
 use Rattle.walks.specs.Noted.{noted, Walked}
 use Rattle.walks.specs.Steps.{rest}
-use Rattle.walks.specs.Going.{Passed, Went, Fewer}
+use Rattle.walks.specs.Going.{Passed, Went}
 use Rattle.walks.proofs.Stepping.{rest_0}
 use Rattle.walks.proofs.Rising.{spans-++, spans_le, trace_up, noted_up}
 
@@ -48,16 +50,6 @@ module _ (k : Kept) where
   spans-cons far (below a) met = refl
 
   module _ (before after : Notes) where
-    -- nothing to walk
-    pub went_none : (xs : List Spot) (left : ℕ) → xs ≡ [] → after ≡ before → Passed k xs left before after left
-    went_none xs left e f = record {
-      met = [];
-      found = ap (trace k left) e;
-      counted = omega arith;
-      listed = ap (λ z. held z.items) f ∙ sym (append-nil (held before.items));
-      spanned = ap (λ z. z.span) f;
-    }
-
     -- the first spot, and then its steps and the others
     pub went_first : (x : Spot) (xs ys : List Spot) (left less : ℕ) (mid : Notes) → left ≡ suc less → onward k x ++ xs ≡ ys
         → held mid.items ≡ held before.items ++ noted_of x → mid.span ≡ narrow before.span x
@@ -102,33 +94,29 @@ module _ (k : Kept) where
     went_name n a left less mid e f g r w = went_first (node n a) [] (rest k n a 0) left less mid e (append-nil (steps k n a) ∙ sym (rest_0 k n a)) f g r w
 
     -- the first step leads below, and then come the others
-    pub went_below : (d a left less : ℕ) (xs ys : List Spot) (mid : Notes) → d ≡ 32 → xs ≡ spot d a ∷ ys → left ≡ suc less
+    pub went_below : (d : Destination) (a left less : ℕ) (xs ys : List Spot) (mid : Notes) → d ≡ Below → xs ≡ spot_of d a ∷ ys → left ≡ suc less
         → held mid.items ≡ held before.items ++ (Arrival a ∷ []) → mid.span ≡ before.span
         → (r : Option ℕ) → Went k ys less mid after r → Went k xs left before after r
     went_below d a left less xs ys mid at is e f g r w =
-        subst (λ l. Went k l left before after r) (sym (is ∙ ap (λ b. cond b (below a) (node d a) ∷ ys) (eq-eqb d 32 at)))
+        subst (λ l. Went k l left before after r) (sym (is ∙ ap (λ z. spot_of z a ∷ ys) at))
         (went_first (below a) ys ys left less mid e refl f g r w)
 
     -- the first step leads to a node, and then come the others
-    to_node : (d a : ℕ) (xs ys : List Spot) → (d ≡ 32 → ⊥) → xs ≡ spot d a ∷ ys → xs ≡ (node d a ∷ []) ++ ys
-    to_node d a xs ys at is = is ∙ ap (λ b. cond b (below a) (node d a) ∷ ys) (ne_eqb d 32 at)
+    to_node : (d : Destination) (n a : ℕ) (xs ys : List Spot) → d ≡ Node n → xs ≡ spot_of d a ∷ ys → xs ≡ (node n a ∷ []) ++ ys
+    to_node d n a xs ys at is = is ∙ ap (λ z. spot_of z a ∷ ys) at
 
-    pub went_node : (d a left over : ℕ) (xs ys : List Spot) (mid : Notes) → (d ≡ 32 → ⊥) → xs ≡ spot d a ∷ ys → Passed k (node d a ∷ []) left before mid over
+    pub went_node : (d : Destination) (n a left over : ℕ) (xs ys : List Spot) (mid : Notes) → d ≡ Node n → xs ≡ spot_of d a ∷ ys → Passed k (node n a ∷ []) left before mid over
         → (r : Option ℕ) → Went k ys over mid after r → Went k xs left before after r
-    went_node d a left over xs ys mid at is p r w =
-        subst (λ l. Went k l left before after r) (sym (to_node d a xs ys at is)) (went_then (node d a ∷ []) ys left over mid p r w)
+    went_node d n a left over xs ys mid at is p r w =
+        subst (λ l. Went k l left before after r) (sym (to_node d n a xs ys at is)) (went_then (node n a ∷ []) ys left over mid p r w)
 
-    pub went_past : (d a left : ℕ) (xs ys : List Spot) → (d ≡ 32 → ⊥) → xs ≡ spot d a ∷ ys → trace k left (node d a ∷ []) ≡ none → trace k left xs ≡ none
-    went_past d a left xs ys at is h =
-        ap (trace k left) (to_node d a xs ys at is) ∙ trace-++ k left (node d a ∷ []) ys ∙ ap (λ o. bind o (λ us. trace k (left - length us) ys)) h
+    pub went_past : (d : Destination) (n a left : ℕ) (xs ys : List Spot) → d ≡ Node n → xs ≡ spot_of d a ∷ ys → trace k left (node n a ∷ []) ≡ none → trace k left xs ≡ none
+    went_past d n a left xs ys at is h =
+        ap (trace k left) (to_node d n a xs ys at is) ∙ trace-++ k left (node n a ∷ []) ys ∙ ap (λ o. bind o (λ us. trace k (left - length us) ys)) h
 
--- a push that has room
-pub pushed : {X : Type 0} (r : Bool) (before after : List X) (x : X) → r ≡ ltb (length before) 64 → length before < 64 → after ≡ cond r (before ++ x ∷ []) before → after ≡ before ++ x ∷ []
-pushed r before after x e h f = f ∙ ap (λ b. cond b (before ++ x ∷ []) before) (e ∙ lt-ltb (length before) 64 h)
-
-pub push_more : {X : Type 0} (r : Bool) (before after : List X) (x : X) → after ≡ cond r (before ++ x ∷ []) before → length after ≤ length before + 1
-push_more true before after x e = let l = length-append before (x ∷ []) in let m = ap length e in omega arith
-push_more false before after x e = let m = ap length e in omega arith
+-- a push that had room
+pub pushed : {X : Type 0} (r : Bool) (before after : List X) (x : X) → true ≡ r → after ≡ cond r (before ++ x ∷ []) before → after ≡ before ++ x ∷ []
+pushed r before after x e f = f ∙ ap (λ b. cond b (before ++ x ∷ []) before) (sym e)
 
 -- what a finished walk answers
 pub walked : (k : Kept) (n a over : ℕ) (before after : Notes) → n < 32 → a < top → held before.items ≡ [] → before.span ≡ top - 1 - a
@@ -146,15 +134,3 @@ walked k n a over before after h l e f p =
       alike = λ d i. trace_up k d n a 64 (top - 1 - a) p.met p.found (subst (λ z. d ≤ z) s i);
       noted_alike = λ d i. noted_up k d (top - 1 - a) p.met (subst (λ z. d ≤ z) s i);
     }
-
--- what is allowed only falls
-pub fewer_still : (less left : ℕ) (after : Notes) → less ≤ left → (r : Option ℕ) → Fewer less after r → Fewer left after r
-fewer_still less left after h None f = tt
-fewer_still less left after h (Some over) f = let l = f.0 in (omega arith, f.1)
-
--- a refusal passed on
-pub refused : (k : Kept) (spots : List Spot) (left : ℕ) (before after : Notes) (r : Option ℕ) → r ≡ None → trace k left spots ≡ none → Went k spots left before after r
-refused k spots left before after r e h = subst (Went k spots left before after) (sym e) h
-
-pub none_fewer : (left : ℕ) (after : Notes) (r : Option ℕ) → r ≡ None → Fewer left after r
-none_fewer left after r e = subst (Fewer left after) (sym e) tt

@@ -1,14 +1,17 @@
 -- The steps of a node one after another.
-use Rattle.std.proofs.Common.{◌≡◌, ℕ, ◌+◌, ◌<◌, ◌≤◌, Bool, true, false, cond, leb, List, [], ◌∷◌, ◌++◌, map, length, get_or, drop, sym, refl, ap, ◌∙◌, arith}
+use Rattle.std.proofs.Common.{◌≡◌, ℕ, ◌+◌, ◌<◌, ◌≤◌, Bool, true, false, cond, leb, List, [], ◌∷◌, ◌++◌, map, length, get_or, drop, Some, None, Option, sym, refl, ap, ◌∙◌, arith}
 use Rattle.std.proofs.lemmas.List.{append-nil, drop_all, length-map, length-take}
-use Rattle.std.proofs.lemmas.Bool.{le-leb, lt-leb}
+use Rattle.std.proofs.lemmas.Bool.{le-leb, lt-leb, ne_eqb}
 use Rattle.lists.specs.declared.ArrayVec.{ArrayVec}
 use Rattle.lists.specs.Held.{held}
 use Rattle.blocks.specs.declared.stored.Mapped.{Mapped}
 use Rattle.blocks.specs.Shape.{map_block}
-use Rattle.model.specs.Nets.{Kept, Spot, spot, accepting, mapped, overlaid, steps}
+use Rattle.blocks.specs.declared.destination.Destination.{Destination}
+use Rattle.blocks.specs.declared.destination.Destination.TheVariants.{Node, Below}
+use Rattle.blocks.specs.Destinations.{overlay_number, Known, OverlayKnown, spot_of}
+use Rattle.model.specs.Nets.{Kept, Spot, node, below, spot, accepting, mapped, overlaid, steps}
 use Rattle.walks.specs.declared.nodes.Step.{Step}
-use Rattle.walks.specs.Steps.{over, rest, ByMap, Next}
+use Rattle.walks.specs.Steps.{over, rest, ByMap, Overlay, Next}
 
 module _ (k : Kept) (n a : ℕ) where
   abbrev overlay : ℕ
@@ -38,14 +41,16 @@ module _ (k : Kept) (n a : ℕ) where
   pub over_maps : (s : Spot) (xs : List Spot) → mapped k.maps n a ≡ s ∷ xs → over k n a ≡ []
   over_maps s xs e = ap (λ l. chosen l (accepting k.accepts n a)) e
 
-  over_at : false ≡ accepting k.accepts n a → mapped k.maps n a ≡ [] → (b : Bool) → leb overlay 32 ≡ b → over k n a ≡ cond b (spot overlay a ∷ []) []
-  over_at e f b g = ap (λ l. chosen l (accepting k.accepts n a)) f ∙ ap (chosen []) (sym e) ∙ ap (λ b. cond b (spot overlay a ∷ []) []) g
+  at_number : false ≡ accepting k.accepts n a → mapped k.maps n a ≡ [] → over k n a ≡ overlaid overlay a
+  at_number e f = ap (λ l. chosen l (accepting k.accepts n a)) f ∙ ap (chosen []) (sym e)
 
-  pub over-nowhere : false ≡ accepting k.accepts n a → mapped k.maps n a ≡ [] → (d : ℕ) → d ≡ overlay → 32 < d → over k n a ≡ []
-  over-nowhere e f d is h = over_at e f false (lt-leb overlay 32 (omega arith))
-
-  pub over-there : false ≡ accepting k.accepts n a → mapped k.maps n a ≡ [] → (d : ℕ) → d ≡ overlay → d ≤ 32 → over k n a ≡ spot d a ∷ []
-  over-there e f d is h = over_at e f true (le-leb overlay 32 (omega arith)) ∙ ap (λ z. spot z a ∷ []) (sym is)
+  -- by what is stored at the node: an overlay where it stands, and none past the end
+  pub over_at : false ≡ accepting k.accepts n a → mapped k.maps n a ≡ [] → (o : Option Destination) → overlay_number o ≡ overlay → OverlayKnown o → Overlay k n a o
+  over_at e f None is h = at_number e f ∙ ap (λ d. overlaid d a) (sym is)
+  over_at e f (Some (Node m)) is h =
+      let l : m < 32 = h m refl in
+      (at_number e f ∙ ap (λ d. overlaid d a) (sym is) ∙ ap (λ b. cond b (spot m a ∷ []) []) (le-leb m 32 (omega arith)) ∙ ap (λ b. cond b (below a) (node m a) ∷ []) (ne_eqb m 32 (λ q. omega arith)), λ i q. h i (ap Some q))
+  over_at e f (Some Below) is h = (at_number e f ∙ ap (λ d. overlaid d a) (sym is), λ i q. h i (ap Some q))
 
   -- past the overlay's place there is nothing
   pub rest-past : (i : ℕ) → length k.maps < i → rest k n a i ≡ []
@@ -59,7 +64,7 @@ module _ (k : Kept) (n a : ℕ) where
       let w = b.within in
       record {
         is = ap (λ l. l ++ cond (leb i (length k.maps)) (over k n a) []) b.is
-            ∙ ap (λ z. spot s.destination s.address ∷ (mapped (drop s.next k.maps) n a ++ cond z (over k n a) []))
+            ∙ ap (λ z. spot_of s.destination s.address ∷ (mapped (drop s.next k.maps) n a ++ cond z (over k n a) []))
             (le-leb i (length k.maps) h ∙ sym (le-leb s.next (length k.maps) b.within));
         known = b.known;
         later = b.later;
@@ -73,9 +78,9 @@ module _ (k : Kept) (n a : ℕ) where
   next_none i h e o = no_map i h e ∙ o
 
   pub next_over : (i : ℕ) (s : Step) → length k.maps ≤ 128 → i ≤ length k.maps → mapped (drop i k.maps) n a ≡ [] → s.next ≡ length k.maps + 1
-      → over k n a ≡ spot s.destination s.address ∷ [] → s.destination ≤ 32 → Next k n a i s
+      → over k n a ≡ spot_of s.destination s.address ∷ [] → Known s.destination → Next k n a i s
   next_over i s few h e p o d = record {
-    is = no_map i h e ∙ o ∙ ap (λ l. spot s.destination s.address ∷ l) (sym (rest-past s.next (omega arith)));
+    is = no_map i h e ∙ o ∙ ap (λ l. spot_of s.destination s.address ∷ l) (sym (rest-past s.next (omega arith)));
     known = d;
     later = omega arith;
     few = omega arith;

@@ -1,10 +1,11 @@
 -- What one call of the walk does to the notes.
-use Rattle.std.specs.Prelude.{◌≡◌, ℕ, ◌+◌, ◌≤◌, List, ◌++◌, length, Some, None, Option}
+use Rattle.std.specs.Prelude.{◌≡◌, ℕ, ◌+◌, List, ◌++◌, length, Some, None, Option}
 use Rattle.std.proofs.Math.Option.{none, some}
 use Rattle.lists.specs.Held.{held}
 use Rattle.model.specs.Nets.{Kept, Spot}
 use Rattle.model.specs.Walks.{trace}
 use Rattle.walks.specs.declared.notes.Notes.{Notes}
+use Rattle.walks.specs.declared.notes.Walk.{Walk}
 use Rattle.walks.specs.Spans.{spans}
 use Rattle.walks.specs.Noted.{noted}
 
@@ -20,7 +21,10 @@ abbrev pub Went : Kept → List Spot → ℕ → Notes → Notes → Option ℕ 
 Went k spots left before after None = trace k left spots ≡ none
 Went k spots left before after (Some over) = Passed k spots left before after over
 
--- what is still allowed is no more than it was, and there are places for it
-abbrev pub Fewer : ℕ → Notes → Option ℕ → Type 0
-Fewer left after None = Unit {0}
-Fewer left after (Some over) = (over ≤ left) × (length (held after.items) + over ≤ 64)
+-- the same of a walk, which has with it what is still allowed
+abbrev pub allowed : Walk → Option (Unit {0}) → Option ℕ
+allowed w None = None
+allowed w (Some u) = Some w.left
+
+abbrev pub WentOn : Kept → List Spot → Walk → Walk → Option (Unit {0}) → Type 0
+WentOn k spots before after r = Went k spots before.left before.notes after.notes (allowed after r)

@@ -2,6 +2,7 @@
 use Rattle.std.specs.Prelude.{ℕ, ◌+◌, ◌-◌, min, Bool, cond, ◌&&◌, List, [], ◌∷◌, ◌==◌, nat_le, nat_lt}
 use Rattle.model.specs.declared.blocks.AcceptBlock.{AcceptBlock}
 use Rattle.model.specs.declared.blocks.MapBlock.{MapBlock}
+use Rattle.walks.specs.declared.range.NodeRange.{NodeRange}
 use Rattle.model.specs.Names.{top}
 use Rattle.model.specs.Nets.{Kept, Spot, node, below, within}
 
@@ -18,6 +19,13 @@ accept_room n a b = room b.node b.lo b.hi n a
 
 abbrev pub map_room : ℕ → ℕ → MapBlock → ℕ
 map_room n a b = room b.node b.lo b.hi n a
+
+-- the same of a range of a node
+abbrev pub range_covers : ℕ → ℕ → NodeRange → Bool
+range_covers n a r = covers r.node r.lo r.hi n a
+
+abbrev pub range_room : ℕ → ℕ → NodeRange → ℕ
+range_room n a r = room r.node r.lo r.hi n a
 
 -- the least of a list's distances
 abbrev pub nearest : {X : Type 0} → (X → ℕ) → List X → ℕ

@@ -1,7 +1,9 @@
 -- The steps of a node one after another, the overlay's after those of the map blocks.
 use Rattle.std.specs.Prelude.{◌≡◌, ℕ, ◌<◌, ◌≤◌, cond, List, [], ◌∷◌, ◌++◌, length, drop, Some, None, Option, nat_le, slice_index_or}
 use Rattle.model.specs.declared.blocks.MapBlock.{MapBlock}
-use Rattle.model.specs.Nets.{Kept, Spot, spot, accepting, mapped, overlaid}
+use Rattle.model.specs.Nets.{Kept, Spot, accepting, mapped, overlaid}
+use Rattle.blocks.specs.declared.destination.Destination.{Destination}
+use Rattle.blocks.specs.Destinations.{Known, spot_of}
 use Rattle.walks.specs.declared.nodes.Step.{Step}
 
 -- the overlay's step, where no block of the node covers the address
@@ -17,8 +19,8 @@ rest k n a i = mapped (drop i k.maps) n a ++ cond (nat_le i (length k.maps)) (ov
 
 -- the first step by a map block at place i or later
 pub record ByMap (bs : List MapBlock) (n a i : ℕ) (s : Step) : Type 0 where
-  pub is : mapped (drop i bs) n a ≡ spot s.destination s.address ∷ mapped (drop s.next bs) n a
-  pub known : s.destination ≤ 32
+  pub is : mapped (drop i bs) n a ≡ spot_of s.destination s.address ∷ mapped (drop s.next bs) n a
+  pub known : Known s.destination
   pub later : i < s.next
   pub within : s.next ≤ length bs
 
@@ -26,14 +28,14 @@ abbrev pub MapStep : List MapBlock → ℕ → ℕ → ℕ → Option Step → T
 MapStep bs n a i None = mapped (drop i bs) n a ≡ []
 MapStep bs n a i (Some s) = ByMap bs n a i s
 
-abbrev pub Overlay : Kept → ℕ → ℕ → Option ℕ → Type 0
+abbrev pub Overlay : Kept → ℕ → ℕ → Option Destination → Type 0
 Overlay k n a None = over k n a ≡ []
-Overlay k n a (Some destination) = (over k n a ≡ spot destination a ∷ []) × (destination ≤ 32)
+Overlay k n a (Some destination) = (over k n a ≡ spot_of destination a ∷ []) × Known destination
 
 -- the first step from place i on
 pub record Next (k : Kept) (n a i : ℕ) (s : Step) : Type 0 where
-  pub is : rest k n a i ≡ spot s.destination s.address ∷ rest k n a s.next
-  pub known : s.destination ≤ 32
+  pub is : rest k n a i ≡ spot_of s.destination s.address ∷ rest k n a s.next
+  pub known : Known s.destination
   pub later : i < s.next
   pub few : s.next ≤ 129
 

@@ -4,4 +4,5 @@
 pub mod laws;
 pub mod nodes;
 pub mod notes;
+mod range;
 pub mod walking;

@@ -1,15 +1,8 @@
-use Rattle.std.proofs.Common.{◌≡◌, Err, refl}
-use Rattle.std.proofs.lemmas.Result.{err_from_is_err_and}
+use Rattle.std.proofs.Common.{refl}
 use Rattle.model.specs.Edits.{map_to}
 use Rattle.blocks.specs.Shape.{kept}
-use Rattle.table.proofs.Deciding.{settles_early, settles_last}
+use Rattle.table.proofs.Deciding.{settles_last}
 use Rattle.table.proofs.table.Table.map.Goals as goal
-
-pub returns-in_err-add_map : goal.returns-in_err-add_map
-returns-in_err-add_map c =
-    let p = err_from_is_err_and c.from_residual.result c.from_residual.ensures.1 in
-    let e : c.from_residual.result ≡ Err c.in_err-add_map.field-0.0 = cc (p.1, p.2) in
-    settles_early (kept c.args.self.now.blocks) (map_to c.args.block) (kept c.add_map.new.self) c.in_err-add_map.field-0.0 c.from_residual.result e c.in_err-add_map.ensures
 
 pub returns : goal.returns
 returns c =

@@ -1,15 +1,8 @@
-use Rattle.std.proofs.Common.{◌≡◌, Err, refl, ap}
-use Rattle.std.proofs.lemmas.Result.{err_from_is_err_and}
+use Rattle.std.proofs.Common.{refl, ap}
 use Rattle.model.specs.Edits.{over}
 use Rattle.blocks.specs.Shape.{kept}
-use Rattle.table.proofs.Deciding.{settles_early, settles_last, settles_bounded, cleared_bound}
+use Rattle.table.proofs.Deciding.{settles_last, settles_bounded, cleared_bound}
 use Rattle.table.proofs.table.Table.over.Goals as goal
-
-pub returns-in_err-set_overlay : goal.returns-in_err-set_overlay
-returns-in_err-set_overlay c =
-    let p = err_from_is_err_and c.from_residual.result c.from_residual.ensures.1 in
-    let e : c.from_residual.result ≡ Err c.in_err-set_overlay.field-0.0 = cc (p.1, p.2) in
-    settles_early (kept c.args.self.now.blocks) (over c.args.node c.args.destination) (kept c.set_overlay.new.self) c.in_err-set_overlay.field-0.0 c.from_residual.result e c.in_err-set_overlay.ensures
 
 pub returns : goal.returns
 returns c =
