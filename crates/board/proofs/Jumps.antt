@@ -1,37 +1,28 @@
 -- The search by jumps finds the first overfull name.
-use Rattle.std.proofs.Common.{◌≡◌, ℕ, zero, suc, ◌+◌, ◌-◌, ◌<◌, Bool, true, false, cond, not, ltb, List, [], ◌∷◌, sym, refl, ap, ◌∙◌, subst, inl, inr, arith}
+use Rattle.std.proofs.Common.{◌≡◌, ℕ, zero, suc, ◌+◌, ◌-◌, ◌<◌, Bool, true, false, cond, not, ltb, List, [], ◌∷◌, sym, refl, ap, ◌∙◌, arith}
 use mathlib.Core.Option.{Option, none, some}
-use Rattle.std.proofs.lemmas.Bool.{cases_lt, ltb-true, ltb-false}
+use Rattle.std.proofs.lemmas.Bool.{ltb-true, ltb-false}
 use Rattle.model.specs.Names.{top}
 use Rattle.model.specs.Nets.{Kept, Spot, node}
 use Rattle.model.specs.Walks.{trace, finite, overfull, least, first_overfull_lem}
 use Rattle.model.proofs.Bounds.{is_least}
+use Rattle.model.proofs.Firsts.{Clear, clear_more}
 use Rattle.walks.specs.Spans.{spans}
 use Rattle.walks.proofs.Rising.{trace_up}
 use Rattle.board.specs.Jumping.{jumping, jumping_nodes}
 
 module _ (k : Kept) (n : ℕ) where
-  -- no address of the node below a is overfull
-  abbrev Clear : ℕ → Type 0
-  Clear a = (b : ℕ) → b < a → overfull k n b ≡ false
+  -- no address of the stretch that begins at a is overfull
+  stretch : (a : ℕ) (met : List Spot) → trace k 64 (node n a ∷ []) ≡ some met → Clear k n a → Clear k n (a + (spans k (top - 1 - a) met + 1))
+  stretch a met e low = clear_more k n a (spans k (top - 1 - a) met) low (λ d h. ap (λ o. not (finite o)) (trace_up k d n a 64 (top - 1 - a) met e h))
 
-  -- nor is any of the stretch that begins at a
-  stretch : (a : ℕ) (met : List Spot) → trace k 64 (node n a ∷ []) ≡ some met → Clear a → Clear (a + (spans k (top - 1 - a) met + 1))
-  stretch a met e low b h =
-      elim (cases_lt b a) [
-        | inl l ↦ low b l
-        | inr l ↦
-            let s : a + (b - a) ≡ b = omega arith in
-            subst (λ z. overfull k n z ≡ false) s (ap (λ o. not (finite o)) (trace_up k (b - a) n a 64 (top - 1 - a) met e (omega arith)))
-      ]
-
-  exact_from : (jumps a : ℕ) (found : Option ℕ) → Clear a → jumping k n jumps a ≡ some found → least (overfull k n) top ≡ found
+  exact_from : (jumps a : ℕ) (found : Option ℕ) → Clear k n a → jumping k n jumps a ≡ some found → least (overfull k n) top ≡ found
   unfolding jumping
   exact_from zero a found low e = let z : ◌≡◌ {A = ℕ} 0 1 = cc in absurd (omega arith)
   exact_from (suc jumps) a found low e = go (ltb a top) refl (trace k 64 (node n a ∷ [])) refl (exact_from jumps) e
     where
       go : (b : Bool) → ltb a top ≡ b → (t : Option (List Spot)) → trace k 64 (node n a ∷ []) ≡ t
-          → ((a : ℕ) (found : Option ℕ) → Clear a → jumping k n jumps a ≡ some found → least (overfull k n) top ≡ found)
+          → ((a : ℕ) (found : Option ℕ) → Clear k n a → jumping k n jumps a ≡ some found → least (overfull k n) top ≡ found)
           → cond b (elim t [ none ↦ some (some a) | some met ↦ jumping k n jumps (a + (spans k (top - 1 - a) met + 1)) ]) (some none) ≡ some found
           → least (overfull k n) top ≡ found
       go true f none g ih e =

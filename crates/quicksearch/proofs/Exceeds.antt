@@ -1,10 +1,12 @@
 -- Walks taken together: how many names they meet does not depend on the order, adds up, and is what is traced.
-use Rattle.std.proofs.Common.{◌≡◌, ℕ, zero, suc, ◌+◌, ◌<◌, ◌≤◌, Bool, true, false, not, List, [], ◌∷◌, ◌++◌, map, length, Some, None, Option, sym, refl, ap, ◌∙◌, subst, arith}
+use Rattle.std.proofs.Common.{◌≡◌, ℕ, zero, suc, ◌+◌, ◌<◌, ◌≤◌, Bool, true, false, not, List, [], ◌∷◌, ◌++◌, map, length, Some, None, Option, is_some, sym, refl, ap, ◌∙◌, subst, arith}
 use mathlib.Core.Option.{Option as Maybe, none, some}
 use Rattle.std.proofs.lemmas.List.{append_assoc, length-append, length-map, map-append}
 use Rattle.std.proofs.lemmas.Bool.{true≢false}
 use Rattle.model.specs.Nets.{Kept, Spot, node}
 use Rattle.model.specs.Walks.{onward, joined, trace, finite, overfull}
+use Rattle.blocks.specs.declared.stored.Blocks.{Blocks}
+use Rattle.blocks.specs.Shape.{kept}
 use Rattle.walks.specs.Spans.{lifted}
 use Rattle.quicksearch.specs.Exceeding.{exceeds, Within, FirstIn}
 
@@ -84,3 +86,11 @@ module _ (k : Kept) where
 
   pub exceeds-overfull : (n a : ℕ) → exceeds k 64 (node n a ∷ []) ≡ overfull k n a
   exceeds-overfull n a = exceeds-trace 64 (node n a ∷ [])
+
+-- what is found of a net is found of it under another name
+pub of_net : {b c : Blocks} → b ≡ c → (n : ℕ) (xs : List Spot) (extent : ℕ) (o : Option ℕ) → FirstIn (kept b) n xs extent o → FirstIn (kept c) n xs extent o
+of_net e n xs extent o = subst (λ b. FirstIn (kept b) n xs extent o) e
+
+pub none_of : (k : Kept) (n : ℕ) (xs : List Spot) (extent : ℕ) (o : Option ℕ) → is_some o ≡ false → FirstIn k n xs extent o → Within k n xs extent
+none_of k n xs extent None e w = w
+none_of k n xs extent (Some y) e w = absurd (true≢false e)

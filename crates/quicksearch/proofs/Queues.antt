@@ -1,26 +1,22 @@
 -- What waits in a queue, and where it is as the start rises.
-use Rattle.std.proofs.Common.{◌≡◌, ℕ, suc, ◌+◌, ◌-◌, ◌%◌, ◌<◌, ◌≤◌, Bool, true, false, cond, eqb, List, [], ◌∷◌, ◌++◌, map, length, get_or, take, drop, set, sym, refl, ap, ◌∙◌, arith}
-use Rattle.std.proofs.lemmas.Bool.{eq-eqb, ne_eqb}
+use Rattle.std.proofs.Common.{◌≡◌, ℕ, suc, ◌+◌, ◌-◌, ◌%◌, ◌<◌, ◌≤◌, List, [], ◌∷◌, ◌++◌, map, length, get_or, take, drop, set, sym, refl, ap, ◌∙◌, arith}
 use Rattle.std.proofs.lemmas.List.{append_assoc, append-nil, length-append, length-take-le, length-drop, length-map, map-append, take-append-drop, take-take, take_more_set, drop-append-le, drop_more, drop_all, drop-take, get_or-take}
 use Rattle.model.specs.Names.{top}
-use Rattle.model.specs.Nets.{Spot, node, below, spot}
+use Rattle.model.specs.Nets.{Spot}
+use Rattle.blocks.specs.declared.destination.Destination.{Destination}
+use Rattle.blocks.specs.declared.destination.Destination.TheVariants.{Node, Below}
+use Rattle.blocks.specs.Destinations.{spot_of}
 use Rattle.walks.specs.Spans.{lifted}
-use Rattle.walks.proofs.Rising.{spot_up}
 use Rattle.quicksearch.specs.declared.memo.Target.{Target}
 use Rattle.quicksearch.specs.Agendas.{placed, spots, waiting, address, Room}
 
-pub spot-below : (d a : ℕ) → d ≡ 32 → spot d a ≡ below a
-spot-below d a e = ap (λ b. cond b (below a) (node d a)) (eq-eqb d 32 e)
+pub address-spot : (d : Destination) (a : ℕ) → address (spot_of d a) ≡ a
+address-spot (Node n) a = refl
+address-spot Below a = refl
 
-pub spot_node : (d a : ℕ) → (d ≡ 32 → ⊥) → spot d a ≡ node d a
-spot_node d a e = ap (λ b. cond b (below a) (node d a)) (ne_eqb d 32 e)
-
-pub address-spot : (d a : ℕ) → address (spot d a) ≡ a
-address-spot d a = go (eqb d 32)
-  where
-    go : (b : Bool) → address (cond b (below a) (node d a)) ≡ a
-    go true = refl
-    go false = refl
+spot_up : (d : Destination) (a x : ℕ) → spot_of d (a + x) ≡ lifted x (spot_of d a)
+spot_up (Node n) a x = refl
+spot_up Below a x = refl
 
 -- distances from the start, modulo the top
 up_mod : (o start x : ℕ) → (o + start) % top + x < top → (o + (start + x)) % top ≡ (o + start) % top + x
@@ -33,9 +29,9 @@ pub spots_up : (start x extent : ℕ) (ts : List Target) → x ≤ extent → Ro
 spots_up start x extent [] h u = refl
 spots_up start x extent (t ∷ ts) h u =
     let a : ℕ = (t.offset + start) % top in
-    let e : address (spot t.destination a) ≡ a = address-spot t.destination a in
+    let e : address (spot_of t.destination a) ≡ a = address-spot t.destination a in
     let l = u.0 in
-    ap (λ z. z ∷ spots (start + x) ts) (ap (spot t.destination) (up_mod t.offset start x (omega arith)) ∙ spot_up t.destination a x)
+    ap (λ z. z ∷ spots (start + x) ts) (ap (spot_of t.destination) (up_mod t.offset start x (omega arith)) ∙ spot_up t.destination a x)
     ∙ ap (λ z. lifted x (placed start t) ∷ z) (spots_up start x extent ts h u.1)
 
 -- the parts of a queue

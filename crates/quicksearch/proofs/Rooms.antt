@@ -6,9 +6,12 @@ use Rattle.std.specs.List.{AllByRecursion}
 use Rattle.model.specs.declared.blocks.MapBlock.{MapBlock}
 use Rattle.model.specs.Names.{top}
 use Rattle.model.specs.Nets.{Kept, Spot, node, below, spot, within, accepting, mapped, steps, TargetFits}
+use Rattle.blocks.specs.declared.destination.Destination.{Destination}
+use Rattle.blocks.specs.Destinations.{destination_of, spot_of}
+use Rattle.blocks.proofs.Sending.{spot_is}
 use Rattle.walks.specs.Spans.{covers, room, nearest, map_room, reach, lifted}
 use Rattle.quicksearch.specs.declared.memo.Target.{Target}
-use Rattle.quicksearch.specs.Agendas.{spots, Room}
+use Rattle.quicksearch.specs.Agendas.{spots, address, Room}
 use Rattle.quicksearch.proofs.Queues.{address-spot}
 
 pub room_at : (start extent : ℕ) (ts : List Target) (i : ℕ) (d : Target) → Room extent (spots start ts) → i < length ts → ((get_or ts i d).offset + start) % top + extent < top
@@ -23,7 +26,7 @@ room_up x r extent (below a ∷ xs) h u = (let l = u.0 in omega arith, room_up x
 
 module _ (n a r : ℕ) where
   one_room : (d b : ℕ) (xs : List Spot) → b + r < top → Room r xs → Room r (spot d b ∷ xs)
-  one_room d b xs h u = (let e = address-spot d b in omega arith, u)
+  one_room d b xs h u = (let e : address (spot d b) ≡ b = ap address (sym (spot_is d b)) ∙ address-spot (destination_of d) b in omega arith, u)
 
   map_one : (b : MapBlock) (c : Bool) → covers b.node b.lo b.hi n a ≡ c → TargetFits b.lo b.hi b.base → r ≤ map_room n a b → (xs : List Spot) → Room r xs
       → Room r (cond c (spot b.destination (b.base + (a - b.lo)) ∷ xs) xs)
@@ -51,9 +54,9 @@ module _ (n a r : ℕ) where
       go (x ∷ xs) u acc low = u
 
 -- a step that is still to be laid out
-pub room-rest : (xs : List Spot) (d a : ℕ) (more all : List Spot) {left : List Spot} → xs ++ left ≡ all → left ≡ spot d a ∷ more → Room 0 all → a < top
+pub room-rest : (xs : List Spot) (d : Destination) (a : ℕ) (more all : List Spot) {left : List Spot} → xs ++ left ≡ all → left ≡ spot_of d a ∷ more → Room 0 all → a < top
 room-rest xs d a more all e f u = go xs (subst (Room 0) (sym (ap (λ l. xs ++ l) (sym f) ∙ e)) u)
   where
-    go : (xs : List Spot) → Room 0 (xs ++ spot d a ∷ more) → a < top
+    go : (xs : List Spot) → Room 0 (xs ++ spot_of d a ∷ more) → a < top
     go [] u = let e = address-spot d a in let l = u.0 in omega arith
     go (x ∷ xs) u = go xs u.1

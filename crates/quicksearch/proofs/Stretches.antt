@@ -1,12 +1,11 @@
 -- A range of starts, stretch by stretch of a node: on a stretch its steps are the same, all raised.
-use Rattle.std.proofs.Common.{◌≡◌, ℕ, suc, ◌+◌, ◌-◌, ◌<◌, ◌≤◌, false, List, [], ◌∷◌, ◌++◌, map, length, Some, None, Option, sym, refl, ap, ◌∙◌, subst, inl, inr, arith}
+use Rattle.std.proofs.Common.{◌≡◌, ℕ, suc, ◌+◌, ◌-◌, ◌<◌, ◌≤◌, false, List, [], ◌∷◌, ◌++◌, map, Some, None, Option, sym, refl, ap, ◌∙◌, subst, inl, inr, arith}
 use Rattle.std.proofs.lemmas.Bool.{cases_lt}
 use Rattle.std.proofs.lemmas.List.{map-append}
 use Rattle.model.specs.Nets.{Kept, Spot, node, below, steps}
 use Rattle.walks.specs.Spans.{reach, lifted}
 use Rattle.walks.proofs.Rising.{steps_up}
 use Rattle.quicksearch.specs.Exceeding.{exceeds, Within, FirstIn}
-use Rattle.quicksearch.proofs.Exceeds.{first_swap, first_long}
 
 lifted_one : (x d : ℕ) (s : Spot) → lifted (x + d) s ≡ lifted d (lifted x s)
 lifted_one x d (node n a) = let e : a + (x + d) ≡ a + x + d = omega arith in ap (node n) e
@@ -50,31 +49,10 @@ module _ (k : Kept) where
     pub more_none : (r : ℕ) → Within k b (map (lifted x) xs) r → (d : ℕ) → d < x + (r + 1) → exceeds k b (map (lifted d) xs) ≡ false
     more_none r w = at_or_above (r + 1) (λ d h. w d (omega arith))
 
-    more_some : (r extent y : ℕ) → FirstIn k b (map (lifted x) xs) r (Some y) → x + r ≤ extent → FirstIn k b xs extent (Some (x + y))
+    pub more_some : (r extent y : ℕ) → FirstIn k b (map (lifted x) xs) r (Some y) → x + r ≤ extent → FirstIn k b xs extent (Some (x + y))
     more_some r extent y (i, f, g) h = (omega arith, ap (exceeds k b) (lifted_twice x y xs) ∙ f, at_or_above y g)
 
   -- an agenda by its first spot and the others, with b names allowed for it and j after the first
   module _ (xs : List Spot) (s : Spot) (os : List Spot) (b j extent : ℕ) (is : xs ≡ s ∷ os) (e : b ≡ suc j) where
     pub below_first : (a : ℕ) → s ≡ below a → (o : Option ℕ) → FirstIn k j os extent o → FirstIn k b xs extent o
     below_first a f o w = subst (λ l. FirstIn k b l extent o) (sym (is ∙ ap (λ z. z ∷ os) f)) (first_below a b j extent os e o w)
-
-    -- the stretch of the node from x up to x + r
-    module _ (n a : ℕ) (at : s ≡ node n a) (x r : ℕ) (near : r ≤ reach k n (a + x)) (inside : x + r ≤ extent) (low : (d : ℕ) → d < x → exceeds k b (map (lifted d) xs) ≡ false) where
-      abbrev pub onto : List Spot
-      onto = map (lifted x) os ++ steps k n (a + x)
-
-      here : (o : Option ℕ) → FirstIn k j onto r o → FirstIn k b (map (lifted x) xs) r o
-      here o w =
-          subst (λ l. FirstIn k b (map (lifted x) l) r o) (sym (is ∙ ap (λ z. z ∷ os) at))
-          (first_name n (a + x) b j r (map (lifted x) os) e near o (first_swap k j (map (lifted x) os) (steps k n (a + x)) r o w))
-
-      pub full_here : j < length onto → FirstIn k b xs extent (Some x)
-      full_here h =
-          let z : x + 0 ≡ x = omega arith in
-          subst (λ y. FirstIn k b xs extent (Some y)) z (more_some b xs x low r extent 0 (here (Some 0) (first_long k j onto r h)) inside)
-
-      pub next_some : (ys : List Spot) → ys ≡ onto → (y : ℕ) → FirstIn k j ys r (Some y) → FirstIn k b xs extent (Some (x + y))
-      next_some ys same y w = more_some b xs x low r extent y (here (Some y) (subst (λ l. FirstIn k j l r (Some y)) same w)) inside
-
-      pub next_none : (ys : List Spot) → ys ≡ onto → FirstIn k j ys r None → (d : ℕ) → d < x + (r + 1) → exceeds k b (map (lifted d) xs) ≡ false
-      next_none ys same w = more_none b xs x low r (here None (subst (λ l. FirstIn k j l r None) same w))

@@ -26,6 +26,7 @@ pub(crate) fn add_steps(
         if end >= queue.len() {
             return None;
         }
+        // By index: what is written through `get_mut` a proof would not know afterwards.
         queue[end] = Target {
             offset: step.address.wrapping_sub(start),
             destination: step.destination,

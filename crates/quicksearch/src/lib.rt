@@ -6,3 +6,4 @@ mod bounds;
 mod memo;
 pub mod overfull;
 mod passing;
+mod search;

@@ -1,165 +1,165 @@
-ghost use Rattle.std.specs.Prelude.{◌≡◌, ◌+◌, ◌-◌, ◌<◌, ◌≤◌, length, take};
+ghost use Rattle.std.specs.Prelude.{◌≡◌, ◌+◌, ◌-◌, ◌<◌, ◌≤◌, ◌∷◌, length, take};
 ghost use Rattle.model.specs.Names.{top};
-ghost use Rattle.model.specs.Nets.{Kept};
+ghost use Rattle.model.specs.Nets.{node as at_node};
 ghost use Rattle.model.specs.Walks.{first_overfull_lem};
 ghost use Rattle.blocks.specs.Shape.{kept};
 ghost use Rattle.blocks.specs.Found.{found};
+ghost use Rattle.walks.specs.Spans.{reach};
 ghost use Rattle.quicksearch.specs.Exceeding.{FirstIn};
-ghost use Rattle.quicksearch.specs.Agendas.{spots, waiting, Room};
-ghost use Rattle.quicksearch.specs.Remembered.{Reliable};
+ghost use Rattle.quicksearch.specs.Agendas.{spots, waiting, Waits};
 
 use crate::agenda::add_steps;
-use crate::bounds::within_bounds;
-use crate::memo::{AGENDAS, BOUNDS, Memo, PassedAgenda, RangeBound, SPOTS, Target};
-use crate::passing::{passed, remember};
+use crate::memo::{Agenda, NO_TARGET, Range, Target};
+use crate::search::Search;
+use blocks::destination::Destination;
 use blocks::stored::Blocks;
 use walks::nodes::reach_above;
 
-// The place in the agenda of the spot whose first stretch goes farthest. To take it first cuts the range into the fewest parts.
-fn farthest(blocks: &Blocks, agenda: &[Target], start: u64, extent: u64) -> usize
-    ensures { result ≤ length agenda.now }
-{
-    let mut best = 0;
-    let mut most = 0;
-    for (i, t) in agenda.iter().enumerate() {
-        let far = reach_above(blocks, t.destination, t.offset.wrapping_add(start));
-        if far >= extent {
-            return i;
+impl<'a> Search<'a> {
+    // The place in the agenda of the spot whose first stretch goes farthest. To take it first cuts the starts into the fewest parts.
+    fn farthest(&self, agenda: Agenda) -> usize
+        ensures { result ≤ length agenda.entry.targets.now }
+    {
+        let mut best = 0;
+        let mut most = 0;
+        // The first that goes over all starts ends the loop: `max_by_key` would look at the rest too.
+        for (i, t) in agenda.targets.iter().enumerate() {
+            let Destination::Node(node) = t.destination else {
+                return i;
+            };
+            let far = reach_above(self.net, node, t.offset.wrapping_add(agenda.starts.low));
+            if far >= agenda.starts.extent {
+                return i;
+            }
+            if far > most {
+                most = far;
+                best = i;
+            }
         }
-        if far > most {
-            most = far;
-            best = i;
-        }
+        best
     }
-    best
-}
 
-// The queue has a place for each name that may be met: the first `head` are met, and the rest is the budget. What waits, from `head` up to `tail`, is the agenda.
-// Answers the least distance up to `extent` by which the start may rise for the walks from the agenda together to meet more names than the budget.
-#[cycle(overfull_along_overfull_in)]
-fn overfull_in(
-    blocks: &Blocks,
-    memo: &mut Memo,
-    queue: &mut [Target],
-    head: usize,
-    tail: usize,
-    start: u64,
-    extent: u64,
-) -> Option<u64>
-    requires places { (head ≤ tail) × (tail ≤ 64) × (length queue.old ≡ 64) }
-    requires under { start + extent < top }
-    requires room { Room extent (spots start (waiting head tail queue.old)) }
-    requires reliable { Reliable (kept blocks.now) memo.old }
-    ensures first { FirstIn (kept blocks.now) (64 - head) (spots start (waiting head tail queue.old)) extent result }
-    ensures kept { take tail queue.new ≡ take tail queue.old }
-    ensures reliable { Reliable (kept blocks.now) memo.new }
-{
-    if head == tail {
-        return None;
-    }
-    let budget = 64 - head;
-    let agenda = &queue[head..tail];
-    if within_bounds(blocks, memo, agenda, start, extent, budget) {
-        return None;
-    }
-    if passed(memo, agenda, start, extent, budget) {
-        return None;
-    }
-    let turn = farthest(blocks, agenda, start, extent);
-    queue[head..tail].rotate_left(turn);
-    let found = overfull_along(blocks, memo, queue, head, tail, start, extent);
-    queue[head..tail].rotate_right(turn);
-    match found {
-        Some(distance) => Some(distance),
-        None => {
-            remember(memo, &queue[head..tail], start, extent, budget);
-            None
-        }
-    }
-}
-
-// The same, where some spot waits: the first is taken stretch by stretch, and on each stretch its steps wait behind the others. Only breadth first do agendas come again.
-#[cycle(overfull_along_overfull_in)]
-fn overfull_along(
-    blocks: &Blocks,
-    memo: &mut Memo,
-    queue: &mut [Target],
-    head: usize,
-    tail: usize,
-    start: u64,
-    extent: u64,
-) -> Option<u64>
-    requires places { (head < tail) × (tail ≤ 64) × (length queue.old ≡ 64) }
-    requires under { start + extent < top }
-    requires room { Room extent (spots start (waiting head tail queue.old)) }
-    requires reliable { Reliable (kept blocks.now) memo.old }
-    ensures first { FirstIn (kept blocks.now) (64 - head) (spots start (waiting head tail queue.old)) extent result }
-    ensures kept { take tail queue.new ≡ take tail queue.old }
-    ensures reliable { Reliable (kept blocks.now) memo.new }
-{
-    let first = queue[head];
-    let node = first.destination;
-    if node == 32 {
-        return overfull_in(blocks, memo, queue, head + 1, tail, start, extent);
-    }
-    let address = first.offset.wrapping_add(start);
-    let mut x = 0;
-    'along: loop {
-        let far = reach_above(blocks, node, address + x).min(extent - x);
-        let Some(end) = add_steps(blocks, node, address + x, start + x, queue, tail) else {
-            return Some(x);
-        };
-        if let Some(y) = overfull_in(blocks, memo, queue, head + 1, end, start + x, far) {
-            return Some(x + y);
-        }
-        if far >= extent - x {
+    // The queue has a place for each name that may be met: the first `head` are met, and the rest is the budget. What waits, from `head` up to `tail`, is the agenda. One queue of fixed size serves all depths of the search: each leaves what stands before `tail` as it was, for the depth above it.
+    // Answers the least distance by which the start may rise from the lowest for the walks from the agenda together to meet more names than the budget.
+    #[cycle(overfull_along_overfull_in)]
+    fn overfull_in(
+        &mut self,
+        queue: &mut [Target],
+        head: usize,
+        tail: usize,
+        starts: Range,
+    ) -> Option<u64>
+        requires { Waits queue.old head tail starts }
+        ensures first { FirstIn (kept self.old.net.now) (64 - head) (spots starts.low (waiting head tail queue.old)) starts.extent result }
+        ensures kept { take tail queue.new ≡ take tail queue.old }
+        ensures net { self.new.net.now ≡ self.old.net.now }
+    {
+        if head == tail {
             return None;
         }
-        x += far + 1;
-    }
-}
-
-// Searches the nodes one after another.
-fn search(blocks: &Blocks, memo: &mut Memo, queue: &mut [Target]) -> Option<(u8, u64)>
-    requires places { length queue.old ≡ 64 }
-    requires reliable { Reliable (kept blocks.now) memo.old }
-    ensures { found result ≡ first_overfull_lem (kept blocks.now) 32 }
-{
-    for node in 0..32u8 {
-        queue[0] = Target {
-            offset: 0,
-            destination: node,
+        let budget = 64 - head;
+        let agenda = Agenda {
+            targets: &queue[head..tail],
+            starts,
         };
-        if let Some(address) = overfull_in(blocks, memo, queue, 0, 1, 0, u64::MAX) {
-            return Some((node, address));
+        if self.within_bounds(agenda, budget) {
+            return None;
+        }
+        if self.passed(agenda, budget) {
+            return None;
+        }
+        let turn = self.farthest(agenda);
+        queue[head..tail].rotate_left(turn);
+        let found = self.overfull_along(queue, head, tail, starts);
+        queue[head..tail].rotate_right(turn);
+        if found.is_none() {
+            let targets = &queue[head..tail];
+            self.remember(Agenda { targets, starts }, budget);
+        }
+        found
+    }
+
+    // The same, where some spot waits: the first is taken stretch by stretch.
+    #[cycle(overfull_along_overfull_in)]
+    fn overfull_along(
+        &mut self,
+        queue: &mut [Target],
+        head: usize,
+        tail: usize,
+        starts: Range,
+    ) -> Option<u64>
+        requires some { head < tail }
+        requires waits { Waits queue.old head tail starts }
+        ensures first { FirstIn (kept self.old.net.now) (64 - head) (spots starts.low (waiting head tail queue.old)) starts.extent result }
+        ensures kept { take tail queue.new ≡ take tail queue.old }
+        ensures net { self.new.net.now ≡ self.old.net.now }
+    {
+        let first = queue[head];
+        let Destination::Node(node) = first.destination else {
+            return self.overfull_in(queue, head + 1, tail, starts);
+        };
+        let net = self.net;
+        let address = first.offset.wrapping_add(starts.low);
+        let mut x = 0;
+        // Each stretch is as long as the blocks let it be, so no `for` counts them.
+        'along: loop {
+            let extent = reach_above(net, node, address + x).min(starts.extent - x);
+            let low = starts.low + x;
+            let part = Range { low, extent };
+            if let Some(y) = self.overfull_ahead(node, address + x, queue, head, tail, part) {
+                return Some(x + y);
+            }
+            if extent >= starts.extent - x {
+                return None;
+            }
+            x += extent + 1;
         }
     }
-    None
-}
 
-// Nothing is remembered yet: a bound of 65 says nothing, and an agenda without spots meets no name.
-fn nothing_known() -> Memo
-    ensures { (k : Kept) → Reliable k result }
-{
-    let bound = RangeBound {
-        address: 0,
-        extent: 0,
-        node: 0,
-        most: 65,
-    };
-    let agenda = PassedAgenda {
-        targets: [Target {
-            offset: 0,
-            destination: 0,
-        }; SPOTS],
-        count: 0,
-        start: 0,
-        extent: 0,
-        budget: 0,
-    };
-    Memo {
-        bounds: [bound; BOUNDS],
-        agendas: [agenda; AGENDAS],
+    // The same, from an address at a node and from what waits behind the place `head`, on one stretch of the node. There its steps are the same, and wait behind the others: only breadth first do agendas come again.
+    #[cycle(overfull_along_overfull_in)]
+    fn overfull_ahead(
+        &mut self,
+        node: u8,
+        address: u64,
+        queue: &mut [Target],
+        head: usize,
+        tail: usize,
+        starts: Range,
+    ) -> Option<u64>
+        requires waits { Waits queue.old (head + 1) tail starts }
+        requires fits { address + starts.extent < top }
+        requires near { starts.extent ≤ reach (kept self.old.net.now) node address }
+        ensures first { FirstIn (kept self.old.net.now) (64 - head) (at_node node address ∷ spots starts.low (waiting (head + 1) tail queue.old)) starts.extent result }
+        ensures kept { take tail queue.new ≡ take tail queue.old }
+        ensures net { self.new.net.now ≡ self.old.net.now }
+    {
+        let Some(end) = add_steps(self.net, node, address, starts.low, queue, tail) else {
+            return Some(0);
+        };
+        self.overfull_in(queue, head + 1, end, starts)
+    }
+
+    // Searches the nodes one after another.
+    fn first(&mut self, queue: &mut [Target]) -> Option<(u8, u64)>
+        requires { length queue.old ≡ 64 }
+        ensures { found result ≡ first_overfull_lem (kept self.old.net.now) 32 }
+    {
+        let starts = Range {
+            low: 0,
+            extent: u64::MAX,
+        };
+        // A `for`, since the search of a node changes what is remembered.
+        for node in 0..32u8 {
+            queue[0] = Target {
+                offset: 0,
+                destination: Destination::Node(node),
+            };
+            if let Some(address) = self.overfull_in(queue, 0, 1, starts) {
+                return Some((node, address));
+            }
+        }
+        None
     }
 }
 
@@ -167,10 +167,6 @@ fn nothing_known() -> Memo
 pub fn first_overfull(blocks: &Blocks) -> Option<(u8, u64)>
     ensures { found result ≡ first_overfull_lem (kept blocks.now) 32 }
 {
-    let mut memo = nothing_known();
-    let mut queue = [Target {
-        offset: 0,
-        destination: 0,
-    }; 64];
-    search(blocks, &mut memo, &mut queue)
+    let mut queue = [NO_TARGET; 64];
+    Search::new(blocks).first(&mut queue)
 }

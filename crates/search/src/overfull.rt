@@ -14,6 +14,7 @@ fn overfull_at(blocks: &Blocks, node: u8) -> Option<u64>
     ensures { found_address result ≡ least (overfull (kept blocks.now) node) top }
 {
     let mut address = 0;
+    // The span of each walk tells how far to go, so no `for` counts the addresses.
     loop {
         let Ok(notes) = walk_from(blocks, node, address) else {
             return Some(address);
@@ -29,6 +30,7 @@ fn overfull_at(blocks: &Blocks, node: u8) -> Option<u64>
 pub fn first_overfull(blocks: &Blocks) -> Option<(u8, u64)>
     ensures { found result ≡ first_overfull_lem (kept blocks.now) 32 }
 {
+    // A `for`: of `find_map` over a range a proof learns too little.
     for node in 0..32u8 {
         if let Some(address) = overfull_at(blocks, node) {
             return Some((node, address));

@@ -1,8 +1,9 @@
 use Rattle.std.proofs.Common.{◌<◌, ◌++◌, length, refl, ap, ◌∙◌, arith}
 use Rattle.std.proofs.lemmas.List.{length-set, take-set-le}
 use Rattle.model.specs.Names.{top}
-use Rattle.model.specs.Nets.{spot, steps}
+use Rattle.model.specs.Nets.{steps}
 use Rattle.blocks.specs.Shape.{kept}
+use Rattle.blocks.specs.Destinations.{spot_of}
 use Rattle.blocks.specs.Formed.{formed}
 use Rattle.walks.specs.Steps.{rest}
 use Rattle.walks.proofs.Stepping.{rest_0}
@@ -31,7 +32,7 @@ loop-step-preserved c =
       simp length-set (omega arith),
       take-set-le c.args.tail c.loop-step.queue c.loop-step.end _ c.loop-step.invariant.0 ∙ c.loop-step.invariant.2,
       lay_more (steps k c.args.node c.args.address) (rest k c.args.node c.args.address c.loop-step.from) c.loop-step.queue c.args.start c.args.tail c.loop-step.end
-          c.loop-step.invariant.0 c.loop-step.invariant.3 (spot s.destination s.address) _ _ (omega arith) (ap (spot s.destination) (back_mod s.address c.args.start low (omega arith))) c.in-Some.ensures.is,
+          c.loop-step.invariant.0 c.loop-step.invariant.3 (spot_of s.destination s.address) _ _ (omega arith) (ap (spot_of s.destination) (back_mod s.address c.args.start low (omega arith))) c.in-Some.ensures.is,
     )
 
 pub returns-then-end-queue : goal.returns-then-end-queue

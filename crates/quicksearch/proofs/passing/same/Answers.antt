@@ -1,16 +1,15 @@
-use Rattle.std.proofs.Common.{◌+◌, ◌%◌, get_or, ap, ◌∙◌, arith}
-use Rattle.model.specs.Names.{top}
-use Rattle.model.specs.Nets.{spot}
-use Rattle.quicksearch.specs.declared.memo.Target.{Target}
-use Rattle.quicksearch.proofs.Memories.{same_more, same_all}
+use Rattle.std.proofs.Common.{◌&&◌, length, sym, ap, ◌∙◌, rules}
+use Rattle.std.proofs.lemmas.Bool.{eq-eqb}
+use Rattle.std.proofs.lemmas.Iterator.{YieldsList-from_slice, YieldsList-from_zip}
+use Rattle.std.proofs.lemmas.Iterator.Search.{all_from_yields_List}
+use Rattle.std.specs.List.{list_all, zip}
+use Rattle.quicksearch.specs.Agendas.{same_spot}
 use Rattle.quicksearch.proofs.passing.same.Goals as goal
 
-pub loop-i-preserved : goal.loop-i-preserved
-loop-i-preserved c = λ e.
-    let d : Target = record { offset = 0; destination = 0 } in
-    let u : Target = get_or c.args.other.now c.loop-i.i d in
-    c.loop-i.invariant (same_more c.args.start c.args.origin c.args.agenda.now c.args.other.now c.loop-i.i d c.loop-i-test.true (omega arith)
-    (ap (λ z. spot z (((get_or c.args.agenda.now c.loop-i.i d).offset + c.args.start) % top)) c.if-t-u.false ∙ ap (spot u.destination) c.if-t-start.false) e)
-
-pub returns : goal.returns
-returns c = λ _. c.loop-i.invariant (same_all c.args.start c.args.origin c.args.agenda.now c.args.other.now c.loop-i.i c.loop-i-test.false (omega arith))
+pub returns-then-targets-others : goal.returns-then-targets-others
+returns-then-targets-others c =
+    let ts = c.args.targets.now in
+    let us = c.args.others.now in
+    let test = same_spot c.args.start c.args.origin in
+    all_from_yields_List test c.all.new.self _ _ c.all.ensures.ran (YieldsList-from_zip (YieldsList-from_slice ts cc) (YieldsList-from_slice us cc)) (λ x b q k. search rules)
+    ∙ sym (ap (λ z. z && list_all test (zip ts us)) (eq-eqb (length ts) (length us) c.if-targets-others.true))

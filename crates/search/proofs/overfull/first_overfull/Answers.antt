@@ -1,8 +1,8 @@
 use Rattle.std.proofs.Common.{◌≡◌, sym, subst, arith}
 use mathlib.Core.Option.{none}
 use Rattle.model.specs.Walks.{first_overfull_lem}
+use Rattle.model.proofs.Firsts.{none_yet, none_more, first_at}
 use Rattle.blocks.specs.Shape.{kept}
-use Rattle.search.proofs.Jumping.{none_yet, none_more, first_at}
 use Rattle.search.proofs.overfull.first_overfull.Goals as goal
 
 pub loop-node-init : goal.loop-node-init

@@ -1,7 +1,7 @@
 use Rattle.std.proofs.Common.{◌-◌, ◌<◌}
 use Rattle.model.specs.Names.{top}
+use Rattle.model.proofs.Firsts.{Clear}
 use Rattle.blocks.specs.Shape.{kept}
-use Rattle.search.proofs.Jumping.{Clear}
 use Rattle.search.proofs.overfull.overfull_at.Given as goal
 
 abbrev pub invariant-loop-notes : goal.invariant-loop-notes

@@ -1,9 +1,0 @@
-use Rattle.std.proofs.Common.{◌≡◌}
-use mathlib.Core.Option.{none}
-use Rattle.model.specs.Walks.{first_overfull_lem}
-use Rattle.blocks.specs.Shape.{kept}
-use Rattle.quicksearch.specs.Remembered.{Reliable}
-use Rattle.quicksearch.proofs.overfull.search.Given as goal
-
-abbrev pub invariant-loop-node : goal.invariant-loop-node
-invariant-loop-node l = (first_overfull_lem (kept l.blocks) l.node ≡ none) × Reliable (kept l.blocks) l.memo
