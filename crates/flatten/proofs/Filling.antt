@@ -10,7 +10,6 @@ use Rattle.flatten.specs.declared.stretch.Stretch.{Stretch}
 use Rattle.flatten.specs.Runs.{Run, Flattened, once, seam, needed, fits}
 use Rattle.flatten.specs.Steps.{Held, Ended, row, rows, closed}
 use Rattle.flatten.proofs.Seams.{run_outside, needed-zero, needed_run, needed-room, fits_from}
-use Rattle.flatten.proofs.Stretches.{front_list}
 use Rattle.flatten.proofs.Tables.{Table, no_rows, table_snoc, ends_rows, rows_made, closed-rows, flattened}
 
 seam_start : (list : ℕ → List Name) (a : ℕ) → a ≡ 0 → seam list a ≡ true
@@ -47,24 +46,24 @@ measured_start list scratch s e h = record {
 }
 
 module _ (list : ℕ → List Name) (room : ℕ) (scratch : List Name) (s : Stretch) (total : ℕ) (m : Measured list room scratch s total)
-    (d : ℕ) (is : d ≡ length (once (take (s.count - 0) scratch))) where
+    (xs : List Name) (x : xs ≡ list s.address) (d : ℕ) (is : d ≡ length (once xs)) where
   one_more : (hi : ℕ) → Run list s.address hi → total + d ≡ needed list (hi + 1)
   one_more hi r =
-      let e : d ≡ length (once (list s.address)) = is ∙ ap (λ t. length (once t)) (front_list list scratch s m.held) in
+      let e : d ≡ length (once (list s.address)) = is ∙ ap (λ t. length (once t)) x in
       let c = m.counted in
       let n = needed_run list s.address hi r m.first in
       omega (arith, e, c, n)
 
   pub measured_more : (after : List Name) (t : Stretch) → d < 18446744073709551616 → length after ≡ room
-      → (s.address < t.address) × Ended list s.address (t.address - 1) room × Held list after t → Measured list room after t (total + d)
-  measured_more after t b len k =
+      → (s.address < t.address) × Ended list s.address (t.address - 1) room → Held list after t → Measured list room after t (total + d)
+  measured_more after t b len k h =
       let lt = k.0 in
       let small = m.small in
       let e : (t.address - 1) + 1 ≡ t.address = omega arith in
       record {
         size = len;
-        held = k.2;
-        first = next_seam list s.address after t lt k.1.run k.2;
+        held = h;
+        first = next_seam list s.address after t lt k.1.run h;
         counted = one_more (t.address - 1) k.1.run ∙ ap (needed list) e;
         fit = λ a l. elim (cases_lt a s.address) [ inl q ↦ m.fit a q | inr q ↦ k.1.fit a q (omega arith) ];
         small = omega arith;
@@ -158,19 +157,19 @@ filled_start list before scratch s e h = record {
 }
 
 module _ (list : ℕ → List Name) (room : ℕ) (before : List Record) (scratch : List Name) (s : Stretch) (n : ℕ) (T : List Record)
-    (f : Filled list room before scratch s n T) (enough : needed list top ≤ length before) where
-  pub filled-room : n + length (once (take (s.count - 0) scratch)) ≤ length T
+    (f : Filled list room before scratch s n T) (enough : needed list top ≤ length before) (xs : List Name) (x : xs ≡ list s.address) where
+  pub filled-room : n + length (once xs) ≤ length T
   filled-room =
       let least = f.held.reaches.least in
       let most = f.held.reaches.most in
       let a = needed-room list s.address top (omega arith) f.first in
-      let e : length (once (take (s.count - 0) scratch)) ≡ length (once (list s.address)) = ap (λ t. length (once t)) (front_list list scratch s f.held) in
+      let e : length (once xs) ≡ length (once (list s.address)) = ap (λ t. length (once t)) x in
       let l = f.long in
       let c = f.counted in
       omega (arith, a, e, l, c)
 
-  module _ (m : ℕ) (part1 : List Record) (is : m ≡ length (once (take (s.count - 0) scratch)))
-      (wrote : part1 ≡ rows s.address s.address (once (take (s.count - 0) scratch)) ++ drop m (take (length T - n) (drop n T)))
+  module _ (m : ℕ) (part1 : List Record) (is : m ≡ length (once xs))
+      (wrote : part1 ≡ rows s.address s.address (once xs) ++ drop m (take (length T - n) (drop n T)))
       (hi : ℕ) (part2 : List Record)
       (shut : part2 ≡ map (closed hi) (take ((n + m) - n) (drop n (put_mid n (length T - n) T part1))))
       (r : Run list s.address hi) where
@@ -179,21 +178,20 @@ module _ (list : ℕ → List Name) (room : ℕ) (before : List Record) (scratch
 
     table_more : Table list (hi + 1) 0 (take (n + m) (put_mid n ((n + m) - n) (put_mid n (length T - n) T part1) part2))
     table_more =
-        let xs : List Name = take (s.count - 0) scratch in
         subst (λ t. Table list (hi + 1) 0 t) (sym (take_2 s.address hi n m (once xs) T part1 part2 within is wrote shut))
         (table_snoc list s.address hi (rows s.address hi (once xs)) r (ends_rows s.address hi (once xs))
-        (rows_made list s.address hi xs (front_list list scratch s f.held)) 0 (take n T) f.flat)
+        (rows_made list s.address hi xs x) 0 (take n T) f.flat)
 
     count_more : n + m ≡ needed list (hi + 1)
     count_more =
-        let e : m ≡ length (once (list s.address)) = is ∙ ap (λ t. length (once t)) (front_list list scratch s f.held) in
+        let e : m ≡ length (once (list s.address)) = is ∙ ap (λ t. length (once t)) x in
         let c = f.counted in
         let q = needed_run list s.address hi r f.first in
         omega (arith, e, c, q)
 
     kept_more : drop (n + m) (put_mid n ((n + m) - n) (put_mid n (length T - n) T part1) part2) ≡ drop (n + m) before
     kept_more =
-        drop_2 s.address hi n m (once (take (s.count - 0) scratch)) T part1 part2 within is wrote shut
+        drop_2 s.address hi n m (once xs) T part1 part2 within is wrote shut
         ∙ sym (drop-drop m n T) ∙ ap (drop m) f.kept ∙ drop-drop m n before
 
     pub filled_last : hi ≡ 18446744073709551615 → (n + m ≡ needed list top)
@@ -211,7 +209,7 @@ module _ (list : ℕ → List Name) (room : ℕ) (before : List Record) (scratch
         → Filled list room before after t (n + m) (put_mid n ((n + m) - n) (put_mid n (length T - n) T part1) part2)
     filled_more after t e lt len h =
         let next : hi + 1 ≡ t.address = omega arith in
-        let z = size_2 s.address hi n m (once (take (s.count - 0) scratch)) T part1 part2 within is wrote shut in
+        let z = size_2 s.address hi n m (once xs) T part1 part2 within is wrote shut in
         let w = within in
         record {
           size = len;
@@ -223,13 +221,3 @@ module _ (list : ℕ → List Name) (room : ℕ) (before : List Record) (scratch
           flat = subst (λ a. Table list a 0 (take (n + m) (put_mid n ((n + m) - n) (put_mid n (length T - n) T part1) part2))) next table_more;
           kept = kept_more;
         }
-
-pub size_1 : (n : ℕ) (T part1 : List Record) → n ≤ length T → length part1 ≡ length (take (length T - n) (drop n T)) → length (put_mid n (length T - n) T part1) ≡ length T
-size_1 n T part1 l e =
-    let a = length-take-le n T l in
-    let b = length-append (take n T) (part1 ++ drop (length T - n) (drop n T)) in
-    let c = length-append part1 (drop (length T - n) (drop n T)) in
-    let d = length-drop (length T - n) (drop n T) in
-    let f = length-drop n T in
-    let h = ap length (take_rest T n) in
-    omega (arith, a, b, c, d, e, f, h)

@@ -1,9 +1,11 @@
 -- Names in lists, and lists of names as sets.
-use Rattle.std.proofs.Common.{◌≡◌, ℕ, suc, ◌+◌, ◌-◌, ◌<◌, ◌≤◌, Bool, true, false, ◌&&◌, ◌||◌, eqb, leb, List, [], ◌∷◌, length, sym, refl, ap, ◌∙◌, inl, inr, add-zero, add_assoc, arith}
-use mathlib.Core.Bool.{and-false}
+use Rattle.std.proofs.Common.{◌≡◌, ℕ, suc, ◌+◌, ◌-◌, ◌<◌, ◌≤◌, Bool, true, false, ◌&&◌, ◌||◌, eqb, ltb, leb, List, [], ◌∷◌, length, sym, refl, ap, ◌∙◌, inl, inr, add-zero, add_assoc, arith}
+use mathlib.Core.Bool.{and-false, and_assoc}
+use Rattle.std.specs.List.{list_all}
 use Rattle.std.proofs.lemmas.Bool.{true≢false, both_ways, eqb-true, leb-true, leb-false, eq-eqb, ne_eqb, and_from, and_right, and_parts, or_left, or_right, or_cases, cond-true, cond-false, lt-ltb, cases_Bool}
 use Rattle.model.specs.declared.names.Name.{Name}
 use Rattle.model.specs.Names.{top, raised, raise, same_name, holds, SameSet}
+use Rattle.model.proofs.Gathering.{same_true, same_self}
 use Rattle.flatten.specs.Runs.{once, every}
 use Rattle.flatten.specs.Steps.{lowered, ups, downs}
 
@@ -27,15 +29,10 @@ iff_eq false true f g = g refl
 iff_eq false false f g = refl
 
 pub same_is : (m n : Name) → same m n ≡ true → m ≡ n
-same_is m n h =
-    let p = and_parts _ _ h in
-    let c : n.component ≡ m.component = eqb-true _ _ p.0 in
-    let a : n.address ≡ m.address = eqb-true _ _ p.1 in
-    ap (λ (x : ℕ). let r : Name = record { component = x; address = m.address } in r) (sym c)
-    ∙ ap (λ (x : ℕ). let r : Name = record { component = n.component; address = x } in r) (sym a)
+same_is m n h = sym (same_true n m h)
 
 pub same_refl : (n : Name) → same n n ≡ true
-same_refl n = and_from _ _ (eq-eqb n.component n.component refl) (eq-eqb n.address n.address refl)
+same_refl n = same_self n
 
 pub set_sym : (xs ys : List Name) → SameSet xs ys → SameSet ys xs
 set_sym xs ys h n = sym (h n)
@@ -166,3 +163,16 @@ pub every_from : (ys xs : List Name) → ((n : Name) → has n xs ≡ true → h
 every_from ys [] h = refl
 every_from ys (x ∷ xs) h =
     and_from _ _ (h x (or_left _ (has x xs) (same_refl x))) (every_from ys xs (λ n m. h n (or_right (same n x) _ m)))
+
+-- the tests of a whole list, as `all` makes them
+pub every-all : (p : Name → Bool) (xs : List Name) → every p xs ≡ list_all p xs
+every-all p [] = refl
+every-all p (x ∷ xs) = ap (λ b. p x && b) (every-all p xs)
+
+pub ups-all : (d : ℕ) (ys xs : List Name) → ups d ys xs ≡ list_all (λ x. ltb (x.address + d) top && holds ys (raised d x)) xs
+ups-all d ys [] = refl
+ups-all d ys (x ∷ xs) = ap (λ b. ltb (x.address + d) top && (holds ys (raised d x) && b)) (ups-all d ys xs) ∙ sym (and_assoc (ltb (x.address + d) top) (holds ys (raised d x)) _)
+
+pub downs-all : (d : ℕ) (ys xs : List Name) → downs d ys xs ≡ list_all (λ x. leb d x.address && holds ys (lowered d x)) xs
+downs-all d ys [] = refl
+downs-all d ys (x ∷ xs) = ap (λ b. leb d x.address && (holds ys (lowered d x) && b)) (downs-all d ys xs) ∙ sym (and_assoc (leb d x.address) (holds ys (lowered d x)) _)

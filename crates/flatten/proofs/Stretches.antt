@@ -1,27 +1,12 @@
 -- Going from stretch to stretch of a space while the set of names stays, raised.
-use Rattle.std.proofs.Common.{◌≡◌, ℕ, ◌+◌, ◌-◌, ◌<◌, ◌≤◌, Bool, true, false, List, length, take, drop, sym, refl, ap, ◌∙◌, subst, inl, inr, arith}
-use Rattle.std.proofs.lemmas.Bool.{cases_lt, cond-true, le-leb}
-use Rattle.std.proofs.lemmas.List.{take_at}
+use Rattle.std.proofs.Common.{◌≡◌, ℕ, ◌+◌, ◌-◌, ◌<◌, ◌≤◌, Bool, true, false, List, length, sym, refl, ap, ◌∙◌, subst, inl, inr, arith}
+use Rattle.std.proofs.lemmas.Bool.{cases_lt}
 use Rattle.model.specs.declared.names.Name.{Name}
 use Rattle.model.specs.Names.{top, raise, SameSet}
-use Rattle.model.specs.Looks.{filled, Reach}
+use Rattle.model.specs.Looks.{Reach}
 use Rattle.flatten.specs.declared.stretch.Stretch.{Stretch}
 use Rattle.flatten.specs.Steps.{ups, downs, Held, Ended}
 use Rattle.flatten.proofs.Sets.{Low, set_sym, set_trans, set_is, set-raise, raise-raise, raise_zero, length-raise, goes_on, stops_up, stops_down}
-
--- what a granted look leaves at the front
-pub look_front : (xs before after : List Name) (count : ℕ) → count ≡ length xs → count ≤ length before → after ≡ filled xs before → take count after ≡ xs
-look_front xs before after count c l e =
-    let m : length xs ≤ length before = omega arith in
-    ap (take count) (e ∙ cond-true _ _ _ (le-leb (length xs) (length before) m)) ∙ take_at xs (drop (length xs) before) count (sym c)
-
-pub held_from : (list : ℕ → List Name) (address count reach : ℕ) (before after : List Name) → length after ≡ length before
-    → (count ≡ length (list address)) × (count ≤ length before) × Reach list address reach → after ≡ filled (list address) before
-    → Held list after (record { address = address; count = count; reach = reach })
-held_from list address count reach before after len g e =
-    let c = g.0 in
-    let l = g.1 in
-    record { counts = c; room = omega arith; front = look_front (list address) before after count c l e; reaches = g.2 }
 
 -- the whole of a stretch fits where its first list does
 pub held_fits : (list : ℕ → List Name) (a reach room : ℕ) → Reach list a reach → length (list a) ≤ room → (b : ℕ) → a ≤ b → b ≤ reach → length (list b) ≤ room
@@ -61,20 +46,6 @@ alike_run list lo hi alike a l m =
     let d : ℕ = a - lo in
     let e : lo + d ≡ a = omega arith in
     set_sym (list a) (raise d (list lo)) (subst (λ x. SameSet (list x) (raise d (list lo))) e (alike d (omega arith)))
-
-pub going_top : (list : ℕ → List Name) (lo room : ℕ) (scratch : List Name) (s : Stretch) → Going list lo room scratch s → s.reach ≡ 18446744073709551615 → Ended list lo 18446744073709551615 room
-going_top list lo room scratch s g e =
-    let low = g.low in
-    let far = g.held.reaches.least in
-    record {
-      run = record {
-        rises = omega arith;
-        below = omega arith;
-        same = alike_run list lo 18446744073709551615 (λ d l. g.alike d (omega arith));
-        longest = inl (omega arith);
-      };
-      fit = λ a l m. g.fit a l (omega arith);
-    }
 
 -- the set at `at`, the first address past the stretch, from the run's first and from the stretch's
 module _ (list : ℕ → List Name) (lo room : ℕ) (scratch : List Name) (s : Stretch) (g : Going list lo room scratch s) (at : ℕ) (is : at ≡ s.reach + 1) where
@@ -142,39 +113,36 @@ module _ (list : ℕ → List Name) (lo room : ℕ) (scratch : List Name) (s : S
       }
 
 -- the turns as the code has them
-pub front_list : (list : ℕ → List Name) (scratch : List Name) (s : Stretch) → Held list scratch s → take (s.count - 0) scratch ≡ list s.address
-front_list list scratch s h = let e : s.count - 0 ≡ s.count = omega arith in ap (λ n. take n scratch) e ∙ h.front
-
 module _ (list : ℕ → List Name) (lo room : ℕ) (scratch : List Name) (s : Stretch) (g : Going list lo room scratch s)
     (after : List Name) (t : Stretch) (here : t.address ≡ s.reach + 1) (h : Held list after t) where
   low_at : Low (list (s.reach + 1))
   low_at = let far = h.reaches.least in let e : t.address + 0 ≡ s.reach + 1 = omega arith in subst (λ a. Low (list a)) e (h.reaches.none_past 0 (omega arith))
 
-  at_next : (d : ℕ) (b : Bool) → b ≡ downs d (list s.address) (take (t.count - 0) after) → downs d (list s.address) (list (s.reach + 1)) ≡ b
-  at_next d b e = sym (e ∙ ap (downs d (list s.address)) (front_list list after t h ∙ ap list here))
+  at_next : (d : ℕ) (b : Bool) (xs : List Name) → xs ≡ list t.address → b ≡ downs d (list s.address) xs → downs d (list s.address) (list (s.reach + 1)) ≡ b
+  at_next d b xs x e = sym (e ∙ ap (downs d (list s.address)) (x ∙ ap list here))
 
-  at_held : (d : ℕ) (b : Bool) → b ≡ ups d (list (s.reach + 1)) (take (s.count - 0) scratch) → ups d (list (s.reach + 1)) (list s.address) ≡ b
-  at_held d b e = sym (e ∙ ap (ups d (list (s.reach + 1))) (front_list list scratch s g.held))
+  at_held : (d : ℕ) (b : Bool) (xs : List Name) → xs ≡ list s.address → b ≡ ups d (list (s.reach + 1)) xs → ups d (list (s.reach + 1)) (list s.address) ≡ b
+  at_held d b xs x e = sym (e ∙ ap (ups d (list (s.reach + 1))) x)
 
   ended : (SameSet (list (s.reach + 1)) (raise (s.reach + 1 - s.address) (list s.address)) → ⊥)
-      → (lo < t.address) × Ended list lo (t.address - 1) room × Held list after t
+      → (lo < t.address) × Ended list lo (t.address - 1) room
   ended stops =
       let far = h.reaches.least in
       let most = h.reaches.most in
       let low = g.low in
       let far2 = g.held.reaches.least in
       let under : s.reach + 1 < top = omega arith in
-      (omega arith, subst (λ a. Ended list lo (a - 1) room) (sym here) (going_ends list lo room scratch s g (s.reach + 1) refl stops under), h)
+      (omega arith, subst (λ a. Ended list lo (a - 1) room) (sym here) (going_ends list lo room scratch s g (s.reach + 1) refl stops under))
 
-  pub ended_up : false ≡ ups (s.reach + 1 - s.address) (list (s.reach + 1)) (take (s.count - 0) scratch)
-      → (lo < t.address) × Ended list lo (t.address - 1) room × Held list after t
-  ended_up e = ended (stops_up (s.reach + 1 - s.address) (list s.address) (list (s.reach + 1)) low_at (at_held _ false e))
+  pub ended_up : (xs : List Name) → xs ≡ list s.address → false ≡ ups (s.reach + 1 - s.address) (list (s.reach + 1)) xs
+      → (lo < t.address) × Ended list lo (t.address - 1) room
+  ended_up xs x e = ended (stops_up (s.reach + 1 - s.address) (list s.address) (list (s.reach + 1)) low_at (at_held _ false xs x e))
 
-  pub ended_down : false ≡ downs (s.reach + 1 - s.address) (list s.address) (take (t.count - 0) after)
-      → (lo < t.address) × Ended list lo (t.address - 1) room × Held list after t
-  ended_down e = ended (stops_down (s.reach + 1 - s.address) (list s.address) (list (s.reach + 1)) (at_next _ false e))
+  pub ended_down : (xs : List Name) → xs ≡ list t.address → false ≡ downs (s.reach + 1 - s.address) (list s.address) xs
+      → (lo < t.address) × Ended list lo (t.address - 1) room
+  ended_down xs x e = ended (stops_down (s.reach + 1 - s.address) (list s.address) (list (s.reach + 1)) (at_next _ false xs x e))
 
-  pub going_on : length after ≡ room → true ≡ ups (s.reach + 1 - s.address) (list (s.reach + 1)) (take (s.count - 0) scratch)
-      → true ≡ downs (s.reach + 1 - s.address) (list s.address) (take (t.count - 0) after)
+  pub going_on : length after ≡ room → (xs ys : List Name) → xs ≡ list s.address → ys ≡ list t.address
+      → true ≡ ups (s.reach + 1 - s.address) (list (s.reach + 1)) xs → true ≡ downs (s.reach + 1 - s.address) (list s.address) ys
       → Going list lo room after t
-  going_on len u v = going_next list lo room scratch s g (s.reach + 1) refl after t len h here (at_held _ true u) (at_next _ true v)
+  going_on len xs ys x y u v = going_next list lo room scratch s g (s.reach + 1) refl after t len h here (at_held _ true xs x u) (at_next _ true ys y v)

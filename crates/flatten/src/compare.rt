@@ -4,6 +4,7 @@ ghost use Rattle.model.specs.Looks.{zeroed};
 ghost use Rattle.flatten.specs.Comparing.{CompareAnswer};
 
 use crate::names::all_there;
+use crate::stretch::Cursor;
 use model::faults::Fault;
 use model::names::Name;
 use space::Space;
@@ -19,30 +20,19 @@ fn first_difference<L: Space, R: Space>(
     ensures { CompareAnswer (lists (L.Space.means first.now).shape) (lists (R.Space.means second.now).shape) (length scratch.old) (length other.old) result }
 {
     let mut at: u64 = 0;
-    let found = 'stretches: loop {
-        let (count, reach) = match first.look(at, scratch) {
-            Ok(granted) => granted,
-            Err(_) => return Err(Fault::ScratchShort),
-        };
-        let (many, far) = match second.look(at, other) {
-            Ok(granted) => granted,
-            Err(_) => return Err(Fault::SecondScratchShort),
-        };
-        for n in &scratch[0..count] {
-            if !second.meets(at, *n) {
-                break 'stretches Some(at);
-            }
+    // Each step goes as far as both lists stay, so no `for` counts the addresses.
+    'stretches: loop {
+        let mine = Cursor::at(first, at, scratch)?;
+        let theirs = Cursor::at(second, at, other).map_err(|_| Fault::SecondScratchShort)?;
+        if !all_there(second, at, mine.names()) || !all_there(first, at, theirs.names()) {
+            return Ok(Some(at));
         }
-        if !all_there(first, at, &other[0..many]) {
-            break 'stretches Some(at);
-        }
-        let last = if reach < far { reach } else { far };
+        let last = mine.reach().min(theirs.reach());
         if last == u64::MAX {
-            break 'stretches None;
+            return Ok(None);
         }
         at = last + 1;
-    };
-    Ok(found)
+    }
 }
 
 // The lowest address at which the two spaces have not the same names; none where they are equal at every address.

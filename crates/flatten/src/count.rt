@@ -5,7 +5,7 @@ ghost use Rattle.model.specs.Names.{top};
 ghost use Rattle.flatten.specs.Runs.{fits, needed};
 
 use crate::names::distinct;
-use crate::stretch::{extend, hold};
+use crate::stretch::Cursor;
 use model::faults::Fault;
 use model::names::Name;
 use space::Space;
@@ -16,14 +16,14 @@ pub(crate) fn measure<S: Space>(space: &S, scratch: &mut [Name]) -> Result<u128,
         (λ n. (n ≡ needed (lists (S.Space.means space.now).shape) top) × (fits (lists (S.Space.means space.now).shape) (length scratch.old) top ≡ true))
         (λ e. (e ≡ ScratchShort) × (fits (lists (S.Space.means space.now).shape) (length scratch.old) top ≡ false)) }
 {
-    let mut held = hold(space, 0, scratch)?;
+    let mut run = Cursor::at(space, 0, scratch)?;
     let mut total: u128 = 0;
+    // No iterator hands the runs on: the names of a run lie in the scratch, which the look for the next one takes.
     'runs: loop {
-        let count = held.count;
-        total += distinct(&scratch[0..count]) as u128;
-        match extend(space, held, scratch)? {
+        total += distinct(run.names()) as u128;
+        match run.next_run()? {
             None => return Ok(total),
-            Some(next) => held = next,
+            Some(next) => run = next,
         }
     }
 }

@@ -4,10 +4,10 @@ ghost use Rattle.model.specs.Names.{top};
 ghost use Rattle.flatten.specs.Runs.{Flattened, fits, needed, once};
 ghost use Rattle.flatten.specs.Steps.{closed, rows};
 
-use crate::stretch::{extend, hold};
+use crate::names::EachOnce;
+use crate::stretch::Cursor;
 use model::names::Name;
 use model::records::Record;
-use sets::member::contains;
 use space::Space;
 
 // Sets the last address of each record.
@@ -24,18 +24,16 @@ fn write_rows(part: &mut [Record], names: &[Name], lo: u64) -> usize
     requires { length (once names.now) ≤ length part.old }
     ensures { (result ≡ length (once names.now)) × (part.new ≡ rows lo lo (once names.now) ++ drop result part.old) }
 {
+    // Counted by hand: the count is the answer, which a zip with the rows would not tell.
     let mut found: usize = 0;
-    for i in 0..names.len() {
-        let name = names[i];
-        if !contains(&names[i + 1..], name) {
-            part[found] = Record {
-                lo,
-                hi: lo,
-                component: name.component,
-                base: name.address,
-            };
-            found += 1;
-        }
+    for name in EachOnce::of(names) {
+        part[found] = Record {
+            lo,
+            hi: lo,
+            component: name.component,
+            base: name.address,
+        };
+        found += 1;
     }
     found
 }
@@ -48,19 +46,14 @@ pub(crate) fn fill<S: Space>(space: &S, scratch: &mut [Name], table: &mut [Recor
     ensures flat { Flattened (lists (S.Space.means space.now).shape) (take result table.new) }
     ensures kept { drop result table.new ≡ drop result table.old }
 {
-    let mut held = match hold(space, 0, scratch) {
-        Ok(first) => first,
-        Err(_) => unreachable(),
+    let Ok(mut run) = Cursor::at(space, 0, scratch) else {
+        unreachable!()
     };
     let mut n: usize = 0;
     'runs: loop {
-        let count = held.count;
-        let lo = held.address;
-        let more = write_rows(&mut table[n..], &scratch[0..count], lo);
-        let end = n + more;
-        let ahead = match extend(space, held, scratch) {
-            Ok(ahead) => ahead,
-            Err(_) => unreachable(),
+        let end = n + write_rows(&mut table[n..], run.names(), run.start());
+        let Ok(ahead) = run.next_run() else {
+            unreachable!()
         };
         match ahead {
             None => {
@@ -68,9 +61,9 @@ pub(crate) fn fill<S: Space>(space: &S, scratch: &mut [Name], table: &mut [Recor
                 return end;
             }
             Some(next) => {
-                close_rows(&mut table[n..end], next.address - 1);
+                close_rows(&mut table[n..end], next.start() - 1);
                 n = end;
-                held = next;
+                run = next;
             }
         }
     }

@@ -1,49 +1,29 @@
--- Loops over a renaming's pairs, and over the slots that it renames.
-use Rattle.std.proofs.Common.{◌≡◌, ℕ, ◌+◌, ◌<◌, ◌≤◌, Bool, true, false, ◌||◌, eqb, List, ◌++◌, map, length, get_or, take, drop, set, sym, ap, ◌∙◌}
-use Rattle.std.proofs.lemmas.List.{at_drop_more, at_drop_all, get_or_default}
+-- A renaming's pairs, and the slots that it renames.
+use Rattle.std.proofs.Common.{◌≡◌, ℕ, ◌+◌, ◌<◌, Bool, true, false, cond, ◌||◌, eqb, List, [], ◌∷◌, ◌++◌, map, length, get_or, take, drop, set, refl, ap, ◌∙◌}
+use Rattle.std.proofs.lemmas.List.{get_or_default}
 use Rattle.std.proofs.lemmas.List.Edits.{map_over_more}
-use Rattle.std.proofs.lemmas.Bool.{cond-true, cond-false, eq-eqb, ne_eqb, or_left}
+use Rattle.std.specs.List.{find, list_any}
+use Rattle.std.specs.Option.{option_map, unwrap_or}
+use Rattle.std.specs.Prelude.{Some}
+use Rattle.std.specs.declared.option.Option.{Option}
 use Rattle.sets.specs.Members.{some_of}
 use Rattle.model.specs.declared.names.Name.{Name}
 use Rattle.model.specs.Names.{replaced, renamed}
 use Rattle.layers.specs.declared.pairs.Pair.{Pair}
 use Rattle.layers.specs.Pairs.{two}
 
-abbrev pub blank : Pair
-blank = record { from = 0; to = 0 }
+-- the pairs' test as the reference model puts it
+pub some_two : (q : ℕ × ℕ → Bool) (xs : List Pair) → some_of q (map two xs) ≡ list_any (λ x. q (two x)) xs
+some_two q [] = refl
+some_two q (x ∷ xs) = ap (λ b. q (two x) || b) (some_two q xs)
 
-or-false : (x y : Bool) → x ≡ false → (x || y) ≡ y
-or-false x y e = rw e
-
--- some pair passes a test
-module _ (q : ℕ × ℕ → Bool) (xs : List Pair) (i : ℕ) (inv : some_of q (map two (drop i xs)) ≡ some_of q (map two xs)) where
-  pub some-found : i < length xs → q (two (get_or xs i blank)) ≡ true → true ≡ some_of q (map two xs)
-  some-found h t =
-      sym (or_left (q (two (get_or xs i blank))) (some_of q (map two (drop (i + 1) xs))) t)
-      ∙ sym (at_drop_more (λ zs. some_of q (map two zs)) xs i blank h) ∙ inv
-
-  pub some_skip : i < length xs → q (two (get_or xs i blank)) ≡ false → some_of q (map two (drop (i + 1) xs)) ≡ some_of q (map two xs)
-  some_skip h t =
-      sym (or-false (q (two (get_or xs i blank))) (some_of q (map two (drop (i + 1) xs))) t)
-      ∙ sym (at_drop_more (λ zs. some_of q (map two zs)) xs i blank h) ∙ inv
-
-  pub some-none : length xs ≤ i → false ≡ some_of q (map two xs)
-  some-none h = sym (at_drop_all (λ zs. some_of q (map two zs)) xs i h) ∙ inv
-
--- the first pair from a component decides
-module _ (k : ℕ) (xs : List Pair) (i : ℕ) (inv : replaced (map two (drop i xs)) k ≡ replaced (map two xs) k) where
-  pub replaced-found : i < length xs → (get_or xs i blank).from ≡ k → (get_or xs i blank).to ≡ replaced (map two xs) k
-  replaced-found h t =
-      sym (cond-true (eqb (get_or xs i blank).from k) (get_or xs i blank).to (replaced (map two (drop (i + 1) xs)) k) (eq-eqb (get_or xs i blank).from k t))
-      ∙ sym (at_drop_more (λ zs. replaced (map two zs) k) xs i blank h) ∙ inv
-
-  pub replaced_skip : i < length xs → ((get_or xs i blank).from ≡ k → ⊥) → replaced (map two (drop (i + 1) xs)) k ≡ replaced (map two xs) k
-  replaced_skip h t =
-      sym (cond-false (eqb (get_or xs i blank).from k) (get_or xs i blank).to (replaced (map two (drop (i + 1) xs)) k) (ne_eqb (get_or xs i blank).from k t))
-      ∙ sym (at_drop_more (λ zs. replaced (map two zs) k) xs i blank h) ∙ inv
-
-  pub replaced-none : length xs ≤ i → k ≡ replaced (map two xs) k
-  replaced-none h = sym (at_drop_all (λ zs. replaced (map two zs) k) xs i h) ∙ inv
+pub replaced_by : (k : ℕ) (xs : List Pair) → replaced (map two xs) k ≡ unwrap_or (option_map (λ (p : Pair). p.to) (find (λ (p : Pair). eqb p.from k) xs)) k
+replaced_by k [] = refl
+replaced_by k (x ∷ xs) = go (eqb x.from k) (find (λ (p : Pair). eqb p.from k) xs) (replaced_by k xs)
+  where
+    go : (b : Bool) (r : Option Pair) → replaced (map two xs) k ≡ unwrap_or (option_map (λ (p : Pair). p.to) r) k → cond b x.to (replaced (map two xs) k) ≡ unwrap_or (option_map (λ (p : Pair). p.to) (cond b (Some x) r)) k
+    go true r h = refl
+    go false r h = h
 
 -- one slot more is renamed
 pub renamed_more : (ps : List (ℕ × ℕ)) (xs ys : List Name) (i r : ℕ) (d : Name) → i < length xs → i < length ys

@@ -1,52 +1,46 @@
 ghost use Rattle.std.specs.Prelude.{◌≡◌, ◌≤◌, ◌++◌, map, length, take, drop, nat_eq};
-ghost use Rattle.sets.specs.Members.{some_of};
+ghost use Rattle.std.specs.List.{find, list_any};
+ghost use Rattle.std.specs.Option.{option_map};
 ghost use Rattle.model.specs.Names.{replaced, renamed};
 ghost use Rattle.layers.specs.Pairs.{two};
 
 use model::names::Name;
 
 // One component, and the one that it is renamed to.
-#[derive(Clone, Copy, Debug)]
+#[derive(Clone, Copy, Debug, Default)]
 pub struct Pair {
     pub from: u32,
     pub to: u32,
 }
 
+// What the first pair from a component renames it to, if there is one.
+fn target(pairs: &[Pair], component: u32) -> Option<u32>
+    ensures { result ≡ option_map (λ (p : Pair). p.to) (find (λ (p : Pair). nat_eq p.from component) pairs.now) }
+{
+    pairs.iter().find(|p| p.from == component).map(|p| p.to)
+}
+
 // The component that another is renamed to: the first pair from it decides.
+#[tactic(auto, using(crate::proofs::Scans::replaced_by))]
 pub(crate) fn replace(pairs: &[Pair], component: u32) -> u32
     ensures { result ≡ replaced (map two pairs.now) component }
 {
-    for p in pairs {
-        if p.from == component {
-            return p.to;
-        }
-    }
-    component
+    target(pairs, component).unwrap_or(component)
 }
 
 // Whether there is a pair from a component.
 pub(crate) fn is_from(pairs: &[Pair], component: u32) -> bool
-    ensures { result ≡ some_of (λ p. nat_eq p.0 component) (map two pairs.now) }
+    ensures { result ≡ list_any (λ (p : Pair). nat_eq p.from component) pairs.now }
 {
-    for p in pairs {
-        if p.from == component {
-            return true;
-        }
-    }
-    false
+    pairs.iter().any(|p| p.from == component)
 }
 
-// Renames the first `count` of the slots, in place.
-pub(crate) fn rename_first(pairs: &[Pair], slots: &mut [Name], count: usize)
-    requires { count ≤ length slots.old }
-    ensures { slots.new ≡ map (renamed (map two pairs.now)) (take count slots.old) ++ drop count slots.old }
+// Renames each of the names, in place.
+#[tactic(auto, using(crate::proofs::Scans::renamed_more))]
+pub(crate) fn rename(pairs: &[Pair], names: &mut [Name])
+    ensures { names.new ≡ map (renamed (map two pairs.now)) names.old }
 {
-    for i in 0..count {
-        let name = slots[i];
-        let component = replace(pairs, name.component);
-        slots[i] = Name {
-            component,
-            address: name.address,
-        };
+    for name in names {
+        name.component = replace(pairs, name.component);
     }
 }

@@ -1,12 +1,12 @@
 -- The items gathered so far, and one more.
-use Rattle.std.proofs.Common.{◌≡◌, ℕ, ◌+◌, ◌-◌, ◌<◌, ◌≤◌, min, List, [], ◌∷◌, ◌++◌, length, get_or, take, drop, set, replicate, sym, refl, ap, ◌∙◌, subst, append_assoc, arith}
-use borrow.Rule.Slice.PartMut.{put_mid, same_len_mid}
+use Rattle.std.proofs.Common.{◌≡◌, ℕ, ◌+◌, ◌-◌, ◌<◌, ◌≤◌, min, List, [], ◌∷◌, ◌++◌, length, get_or, take, drop, set, sym, refl, ap, ◌∙◌, subst, append_assoc, arith}
+use borrow.Rule.Slice.PartMut.{put_mid}
 use Rattle.std.specs.List.{AllByRecursion}
-use Rattle.std.proofs.lemmas.Bool.{lt-leb, le-leb}
+use Rattle.std.proofs.lemmas.Bool.{le-leb}
 use Rattle.std.proofs.ByRecursion.{All-append}
 use Rattle.std.proofs.lemmas.List.{append-nil, take_more, take-append-drop, take_all, length-append, length-drop, take_rest, drop_at, take_at, drop_all, drop-drop, drop_more, set_at, length_push}
 use Rattle.model.specs.declared.names.Name.{Name}
-use Rattle.model.specs.Looks.{Reach, filled, zeroed}
+use Rattle.model.specs.Looks.{Reach, filled}
 use Rattle.walks.specs.declared.notes.Note.{Note}
 use Rattle.walks.specs.declared.notes.Note.TheVariants.{Own, Arrival}
 use Rattle.nets.specs.Gathering.{each, Steady, Gathered}
@@ -33,9 +33,6 @@ each_front f xs i =
     let l = ap length e in
     let m = length-append (each f (take i xs)) (each f (drop i xs)) in
     omega (arith, l, m)
-
-filled_short : (xs old : List Name) → length old < length xs → filled xs old ≡ zeroed old
-filled_short xs old h = rw (lt-leb (length xs) (length old) h)
 
 filled-fits : (xs old : List Name) → length xs ≤ length old → filled xs old ≡ xs ++ drop (length xs) old
 filled-fits xs old h = rw (le-leb (length xs) (length old) h)
@@ -65,9 +62,6 @@ pub record Going (f : ℕ → List Name) (xs : List Note) (span i count room : �
   pub quiet : AllByRecursion (Steady f room) (take i xs)
 
 module _ (f : ℕ → List Name) (xs : List Note) (span : ℕ) (old : List Name) where
-  pub going_start : Going f xs span 0 0 span old old
-  going_start = record { counted = refl; placed = refl; within = omega arith; near = omega arith; quiet = tt }
-
   module _ (i count room : ℕ) (slots : List Name) (g : Going f xs span i count room old slots) where
     pub going_done : length xs ≤ i → Gathered f xs span count room (length old)
     going_done h =
@@ -179,12 +173,6 @@ module _ (f : ℕ → List Name) (xs : List Note) (span : ℕ) (old : List Name)
                 (steady_less f room (min room (reach - a)) (omega arith) (take i xs) g.quiet)
                 (shorter f a reach (a + min room (reach - a)) r (omega arith) (omega (arith, rl)), tt));
           }
-
-      pub put_size : (part : List Name) → length part ≡ length (take (length slots - count) (drop count slots)) → length (put_mid count (length slots - count) slots part) ≡ length old
-      put_size part e = same_len_mid count (length slots - count) slots part e ∙ same_size
-
-  pub short_filled : (after : List Name) (n : ℕ) → after ≡ replicate n nothing → n ≡ length old → length old < length (each f xs) → after ≡ filled (each f xs) old
-  short_filled after n e en h = e ∙ ap (λ m. replicate m nothing) en ∙ sym (filled_short (each f xs) old h)
 
 pub going_as : (f : ℕ → List Name) (xs : List Note) (span i : ℕ) (old : List Name) (count count' room room' : ℕ) (slots slots' : List Name)
     → Going f xs span i count room old slots → count' ≡ count → room' ≡ room → slots' ≡ slots → Going f xs span i count' room' old slots'

@@ -17,8 +17,8 @@ settled_under none new old m = refl
 settled_under (some r) new old m = refl
 
 module _ (k k' : Kept) (m m' : Model) (e : NetEdit) (r : Result (Unit {0}) Fault) (s : Settles k k' e r) (b : m' ≡ m) (x : Edit) (is : x ≡ on_net e) where
-  pub edit_ends : ended r ≡ (edited (net k m) x).0
-  edit_ends = s.0 ∙ settled_end (net_refusal k e) (net_after k e) k (net (net_after k e) m) (net k m) ∙ ap (λ y. (edited (net k m) y).0) (sym is)
-
-  pub edit_leaves : net k' m' ≡ (edited (net k m) x).1
-  edit_leaves = ap (net k') b ∙ ap (λ j. net j m) s.1 ∙ settled_under (net_refusal k e) (net_after k e) k m ∙ ap (λ y. (edited (net k m) y).1) (sym is)
+  pub edit_made : record { answer : ended r ≡ (edited (net k m) x).0; kept : net k' m' ≡ (edited (net k m) x).1 }
+  edit_made = record {
+    answer = s.0 ∙ settled_end (net_refusal k e) (net_after k e) k (net (net_after k e) m) (net k m) ∙ ap (λ y. (edited (net k m) y).0) (sym is);
+    kept = ap (net k') b ∙ ap (λ j. net j m) s.1 ∙ settled_under (net_refusal k e) (net_after k e) k m ∙ ap (λ y. (edited (net k m) y).1) (sym is);
+  }

@@ -1,6 +1,7 @@
 use model::blocks::{AcceptBlock, MapBlock};
 
 // What a net can be told to do.
+// Any byte may be given: the net refuses what is no node or destination, and 33 clears an overlay.
 #[derive(Drop)]
 pub enum NetEdit<B> {
     Accept(AcceptBlock),

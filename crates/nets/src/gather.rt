@@ -11,6 +11,7 @@ use space::Space;
 use space::slots::wipe;
 use walks::notes::Note;
 
+// Items and span are lent apart: the contract speaks of any list of notes.
 // The names that noted items stand for over the space below: how many, and how far up, of `span` at most, each list found below stays the same-name but raised.
 pub(crate) fn gather<B: Space>(
     below: &B,
@@ -23,28 +24,42 @@ pub(crate) fn gather<B: Space>(
         (λ e. (told e ≡ plain 9) × (length slots.old < length (each (lists (B.Space.means below.now).shape) items.now))) }
     ensures buffer { slots.new ≡ filled (each (lists (B.Space.means below.now).shape) items.now) slots.old }
 {
+    let answer = put_each(below, items, span, slots);
+    if answer.is_err() {
+        wipe(slots);
+    }
+    answer
+}
+
+// Puts the names into the slots, item after item, as long as there is room.
+fn put_each<B: Space>(
+    below: &B,
+    items: &[Note],
+    span: u64,
+    slots: &mut [Name],
+) -> Result<(usize, u64), Fault>
+    ensures { MatchResult result
+        (λ g. Gathered (lists (B.Space.means below.now).shape) items.now span g.0 g.1 (length slots.old)
+        × (slots.new ≡ filled (each (lists (B.Space.means below.now).shape) items.now) slots.old))
+        (λ e. (told e ≡ plain 9) × (length slots.old < length (each (lists (B.Space.means below.now).shape) items.now))) }
+{
+    // Counted by hand: an item puts one name or many, so no iterator gives the place.
     let mut count: usize = 0;
     let mut room = span;
     for item in items {
         match *item {
             Note::Own(name) => {
                 if count >= slots.len() {
-                    wipe(slots);
                     return Err(Fault::BufferShort);
                 }
                 slots[count] = name;
                 count += 1;
             }
-            Note::Arrival(address) => match below.look(address, &mut slots[count..]) {
-                Ok((more, reach)) => {
-                    count += more;
-                    room = room.min(reach - address);
-                }
-                Err(fault) => {
-                    wipe(slots);
-                    return Err(fault);
-                }
-            },
+            Note::Arrival(address) => {
+                let (more, reach) = below.look(address, &mut slots[count..])?;
+                count += more;
+                room = room.min(reach - address);
+            }
         }
     }
     Ok((count, room))
@@ -54,19 +69,8 @@ pub(crate) fn gather<B: Space>(
 pub(crate) fn any_meets<B: Space>(below: &B, items: &[Note], name: Name) -> bool
     ensures { result ≡ holds (each (lists (B.Space.means below.now).shape) items.now) name }
 {
-    for item in items {
-        match *item {
-            Note::Own(own) => {
-                if own.component == name.component && own.address == name.address {
-                    return true;
-                }
-            }
-            Note::Arrival(address) => {
-                if below.meets(address, name) {
-                    return true;
-                }
-            }
-        }
-    }
-    false
+    items.iter().any(|item| match *item {
+        Note::Own(own) => own == name,
+        Note::Arrival(address) => below.meets(address, name),
+    })
 }

@@ -30,13 +30,9 @@ impl<B: Space> Net<B> {
         ensures answer { Resolved (inner self.now.table).keeps (B.Space.means self.now.below).shape node address (length slots.old) result }
         ensures buffer { slots.new ≡ resolved_slots (inner self.now.table).keeps (B.Space.means self.now.below).shape node address slots.old }
     {
-        match self.table.walk(node, address) {
-            Ok(notes) => match gather(&self.below, notes.items.as_slice(), notes.span, slots) {
-                Ok((count, room)) => Ok((count, address + room)),
-                Err(fault) => Err(fault),
-            },
-            Err(unknown) => Err(unknown),
-        }
+        let notes = self.table.walk(node, address)?;
+        let (count, room) = gather(&self.below, notes.items.as_slice(), notes.span, slots)?;
+        Ok((count, address + room))
     }
 
     // Exchanges the space below, and hands the old one back.
@@ -46,6 +42,9 @@ impl<B: Space> Net<B> {
     {
         std::mem::replace(&mut self.below, below)
     }
+
+    // This and the next five only hand on to the table: each is a function of its own, since its contract names what it does.
+    // That the space below stays is each one's own promise: a type cannot hold what a call leaves.
 
     // A node accepts the addresses of one more block.
     pub fn accept(&mut self, block: AcceptBlock) -> Result<(), Fault>
@@ -104,9 +103,9 @@ impl<B: Space> Space for Net<B> {
     }
 
     fn meets(&self, address: u64, name: Name) -> bool {
-        match self.table.walk(self.table.entry(), address) {
-            Ok(notes) => any_meets(&self.below, notes.items.as_slice(), name),
-            Err(_) => unreachable(),
-        }
+        let Ok(notes) = self.table.walk(self.table.entry(), address) else {
+            unreachable!()
+        };
+        any_meets(&self.below, notes.items.as_slice(), name)
     }
 }

@@ -10,6 +10,7 @@ ghost use Rattle.layers.specs.Meanings.{window_means, window_edit, clear_to};
 use crate::window::{Window, WindowEdit};
 use model::faults::Fault;
 use model::names::Name;
+use model::ranges::check_target;
 use space::Space;
 use space::layer::Layer;
 
@@ -20,21 +21,19 @@ impl<B: Space> Window<B> {
             (λ w. (asked (range_rises lo hi ∷ target_fits lo hi base ∷ []) ≡ none) × ((window_means B.Space.means w).shape ≡ window lo hi base (B.Space.means below).shape))
             (λ e. (asked (range_rises lo hi ∷ target_fits lo hi base ∷ []) ≡ some (told e.0)) × (e.1 ≡ below)) }
     {
-        if lo > hi {
-            return Err((Fault::RangeReversed, below));
+        match check_target(lo, hi, base) {
+            Ok(()) => Ok(Window {
+                lo,
+                hi,
+                base,
+                below,
+            }),
+            Err(f) => Err((f, below)),
         }
-        if hi - lo > u64::MAX - base {
-            return Err((Fault::TargetPastTop, below));
-        }
-        Ok(Window {
-            lo,
-            hi,
-            base,
-            below,
-        })
     }
 
     // Puts another space below, and hands back the one that was there.
+    // One line in each layer: a trait of them would need a line of its own for each field.
     pub fn plug(&mut self, below: B) -> B
         ensures old { result ≡ self.old.below }
         ensures kept { (window_means B.Space.means self.new).shape ≡ (edited (window_means B.Space.means self.old).shape (plug (B.Space.means below).shape)).1 }
@@ -64,10 +63,8 @@ impl<B: Space> Space for Window<B> {
     }
 
     fn meets(&self, address: u64, name: Name) -> bool {
-        if address < self.lo || address > self.hi {
-            return false;
-        }
-        self.below.meets(self.base + (address - self.lo), name)
+        (self.lo..=self.hi).contains(&address)
+            && self.below.meets(self.base + (address - self.lo), name)
     }
 }
 

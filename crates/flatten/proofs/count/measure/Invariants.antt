@@ -1,10 +1,12 @@
-use Rattle.std.proofs.Common.{◌-◌, ◌^◌, length}
+use Rattle.std.proofs.Common.{◌≡◌, ◌-◌, ◌^◌, length}
 use Rattle.model.specs.Model.{lists}
 use Rattle.flatten.proofs.Filling.{Measured}
 use Rattle.flatten.proofs.count.measure.Given as goal
 
 abbrev pub invariant-runs : goal.invariant-runs
-invariant-runs g l = Measured (lists (g.S.Space.means l.space).shape) (length l.initial.scratch) l.scratch l.held l.total
+invariant-runs g l =
+    (l.run.space.now ≡ l.space)
+    × Measured (lists (g.S.Space.means l.space).shape) (length l.fn.scratch) l.run.scratch.now l.run.held l.total
 
 abbrev pub decreases-runs : goal.decreases-runs
-decreases-runs g l = 2 ^ 64 - l.held.address
+decreases-runs g l = 2 ^ 64 - l.run.held.address

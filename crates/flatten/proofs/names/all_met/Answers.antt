@@ -1,18 +1,13 @@
+use Rattle.std.proofs.Common.{rules, tests, ◌+◌, ◌&&◌, nat_lt, sym, ◌∙◌}
+use Rattle.std.proofs.lemmas.Iterator.{YieldsList-from_slice}
+use Rattle.std.proofs.lemmas.Iterator.Search.{all_from_yields_List}
+use Rattle.model.specs.declared.names.Name.{Name}
 use Rattle.model.specs.Model.{lists}
-use Rattle.std.proofs.Common.{sym, ◌∙◌, arith}
-use Rattle.std.proofs.lemmas.List.{at_drop_all}
-use Rattle.flatten.specs.Steps.{ups}
-use Rattle.flatten.proofs.Leaves.{ups-over, ups_lacks, ups_next}
+use Rattle.model.specs.Names.{top, raised, holds}
+use Rattle.flatten.proofs.Sets.{ups-all}
 use Rattle.flatten.proofs.names.all_met.Goals as goal
 
-pub returns-then-n-by : goal.returns-then-n-by
-returns-then-n-by g c = ups-over c.args.by (lists (g.S.Space.means c.args.space.now).shape c.args.at) c.args.names.now c.loop-n.n-index c.loop-n-test.true c.loop-n.invariant c.if-n-by.true
-
-pub returns-then-not-meets : goal.returns-then-not-meets
-returns-then-not-meets g c = ups_lacks c.args.by (lists (g.S.Space.means c.args.space.now).shape c.args.at) c.args.names.now c.loop-n.n-index c.loop-n-test.true c.loop-n.invariant (sym c.if-not-meets.ensures)
-
-pub loop-n-preserved : goal.loop-n-preserved
-loop-n-preserved g c = ups_next c.args.by (lists (g.S.Space.means c.args.space.now).shape c.args.at) c.args.names.now c.loop-n.n-index c.loop-n-test.true c.loop-n.invariant c.if-n-by.false (omega arith) (sym c.if-not-meets.ensures)
-
 pub returns : goal.returns
-returns g c = sym (c.loop-n.invariant ∙ at_drop_all (ups c.args.by (lists (g.S.Space.means c.args.space.now).shape c.args.at)) c.args.names.now c.loop-n.n-index c.loop-n-test.false)
+returns g c =
+    let there = lists (g.S.Space.means c.args.space.now).shape c.args.at in
+    all_from_yields_List (λ (x : Name). nat_lt (x.address + c.args.by) top && holds there (raised c.args.by x)) _ _ _ c.all.ensures.ran (YieldsList-from_slice c.args.names.now cc) (λ x b q k. (search rules, search (rules, tests))) ∙ sym (ups-all c.args.by there c.args.names.now)

@@ -1,13 +1,12 @@
-use Rattle.std.proofs.Common.{sym}
+use Rattle.std.proofs.Common.{rules, sym, ◌∙◌}
+use Rattle.std.proofs.lemmas.Iterator.{YieldsList-from_slice}
+use Rattle.std.proofs.lemmas.Iterator.Search.{all_from_yields_List}
 use Rattle.model.specs.Model.{lists}
-use Rattle.flatten.proofs.Leaves.{every_next, every_lacks, every_done}
+use Rattle.model.specs.Names.{holds}
+use Rattle.flatten.proofs.Sets.{every-all}
 use Rattle.flatten.proofs.names.all_there.Goals as goal
 
-pub returns-then-not-meets : goal.returns-then-not-meets
-returns-then-not-meets g c = sym (every_lacks (lists (g.S.Space.means c.args.space.now).shape c.args.at) c.args.names.now c.loop-n.n-index c.loop-n.invariant c.loop-n-test.true c.if-not-meets.ensures)
-
-pub loop-n-preserved : goal.loop-n-preserved
-loop-n-preserved g c = every_next (lists (g.S.Space.means c.args.space.now).shape c.args.at) c.args.names.now c.loop-n.n-index c.loop-n.invariant c.loop-n-test.true c.if-not-meets.ensures
-
 pub returns : goal.returns
-returns g c = sym (every_done (lists (g.S.Space.means c.args.space.now).shape c.args.at) c.args.names.now c.loop-n.n-index c.loop-n.invariant c.loop-n-test.false)
+returns g c =
+    let there = holds (lists (g.S.Space.means c.args.space.now).shape c.args.at) in
+    all_from_yields_List there _ _ _ c.all.ensures.ran (YieldsList-from_slice c.args.names.now cc) (λ x b q k. search rules) ∙ sym (every-all there c.args.names.now)

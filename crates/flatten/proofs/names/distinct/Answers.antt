@@ -1,17 +1,6 @@
-use Rattle.std.proofs.Common.{arith}
-use Rattle.flatten.proofs.Leaves.{count_old, count_new, count_done}
+use Rattle.std.proofs.Common.{length, inl, ap, arith}
+use Rattle.flatten.proofs.Leaves.{length-once}
 use Rattle.flatten.proofs.names.distinct.Goals as goal
-use Rattle.flatten.proofs.names.distinct.Goals.{then-not-contains, else-not-contains}
 
-pub loop-i-preserved : goal.loop-i-preserved
-loop-i-preserved c = elim c.if-not-contains.branch [
-  | then-not-contains w ↦
-      (let q = count_new c.args.names.now c.loop-i.i c.loop-i.found _ c.loop-i-test.true c.loop-i.invariant.1 w.if-not-contains.ensures in
-      (omega (arith, w.found-is), omega (arith, w.found-is, q)))
-  | else-not-contains w ↦
-      (let q = count_old c.args.names.now c.loop-i.i c.loop-i.found _ c.loop-i-test.true c.loop-i.invariant.1 w.if-not-contains.ensures in
-      (omega (arith, w.found-is), omega (arith, w.found-is, q)))
-]
-
-pub returns : goal.returns
-returns c = count_done c.args.names.now c.loop-i.i c.loop-i.found _ c.loop-i-test.false c.loop-i.invariant.1
+pub count-requires-clause-fits : goal.count-requires-clause-fits
+count-requires-clause-fits c = inl (let h = length-once c.of.result.left.now in let e = ap length c.of.ensures in omega (arith, h, e))

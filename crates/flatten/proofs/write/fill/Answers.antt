@@ -1,14 +1,12 @@
-use Rattle.std.proofs.Common.{◌≡◌, ℕ, ◌-◌, ◌<◌, ◌≤◌, true, List, length, refl, ap, arith, length-drop}
+use Rattle.std.proofs.Common.{◌≡◌, ℕ, ◌-◌, ◌<◌, true, List, length, refl, ap, ◌∙◌, subst, arith, length-drop}
 use Rattle.std.proofs.lemmas.List.{take_rest}
-use Rattle.std.proofs.lemmas.Option.{MatchOption-at_none, MatchOption-at_some}
 use Rattle.model.specs.declared.names.Name.{Name}
 use Rattle.model.specs.Model.{lists}
 use Rattle.model.specs.Names.{top}
-use Rattle.flatten.specs.declared.stretch.Stretch.{Stretch}
 use Rattle.flatten.specs.Runs.{fits}
-use Rattle.flatten.specs.Steps.{Ended, Held}
+use Rattle.flatten.specs.Steps.{Held}
 use Rattle.flatten.proofs.Seams.{fits_at}
-use Rattle.flatten.proofs.Filling.{filled_start, filled-room, filled_last, filled_more, size_1}
+use Rattle.flatten.proofs.Filling.{Filled, filled_start, filled-room, filled_last, filled_more}
 use Rattle.flatten.proofs.write.fill.Goals as goal
 
 -- no list is longer than a scratch that holds them all
@@ -17,73 +15,59 @@ never_longer list s a f l m = let h = fits_at list s top a f l in omega (arith, 
 
 pub unreachable-requires : goal.unreachable-requires
 unreachable-requires g c =
-    let q = c.in-Err.ensures in
-    absurd (never_longer (lists (g.S.Space.means c.args.space.now).shape) (length c.args.scratch.now) 0 c.requires.held (omega arith) q.1)
-
-pub unreachable-requires-in-Err-extend : goal.unreachable-requires-in-Err-extend
-unreachable-requires-in-Err-extend g c =
-    let q = c.in-Err-extend.ensures in
-    let s = c.runs.invariant.size in
-    let l = q.1.2 in
-    let e : length c.hold.new.scratch ≡ length c.args.scratch.now = omega arith in
-    absurd (never_longer (lists (g.S.Space.means c.args.space.now).shape) (length c.args.scratch.now) q.1.0 c.requires.held q.1.1 (omega (arith, s, l, e)))
+    let q = c.in_default.ensures in
+    never_longer (lists (g.S.Space.means c.args.space.now).shape) (length c.args.scratch.now) 0 c.requires.held (omega arith) q.1
 
 pub runs-init : goal.runs-init
 runs-init g c =
+    let list = lists (g.S.Space.means c.args.space.now).shape in
+    let r = c.in-Ok.run' in
     let k = c.in-Ok.ensures in
-    filled_start (lists (g.S.Space.means c.args.space.now).shape) c.args.table.now c.hold.new.scratch c.in-Ok.first k.0 k.1
+    let h = subst (λ s. Held (lists (g.S.Space.means s).shape) r.scratch.now r.held) k.1 r.holds in
+    (k.1, subst (λ n. Filled list n c.args.table.now r.scratch.now r.held 0 c.args.table.now) k.2 (filled_start list c.args.table.now r.scratch.now r.held k.0 h))
 
-pub write_rows-more-requires : goal.write_rows-more-requires
-write_rows-more-requires g c =
-    let q = filled-room (lists (g.S.Space.means c.args.space.now).shape) _ c.args.table.now c.runs.scratch c.runs.held c.runs.n c.runs.table c.runs.invariant c.requires.room in
+pub write_rows-requires : goal.write_rows-requires
+write_rows-requires g c =
+    let list = lists (g.S.Space.means c.args.space.now).shape in
+    let run = c.runs.run in
+    let x = c.names.ensures ∙ ap (λ s. lists (g.S.Space.means s).shape run.held.address) c.runs.invariant.0 in
+    let q = filled-room list _ c.args.table.now run.scratch.now run.held c.runs.n c.runs.table c.runs.invariant.1 c.requires.room c.names.result.now x in
     let e = ap length (take_rest c.runs.table c.runs.n) in
     let d = length-drop c.runs.n c.runs.table in
     omega (arith, q, e, d)
 
-pub overflow_add-end : goal.overflow_add-end
-overflow_add-end g c =
-    let q = filled-room (lists (g.S.Space.means c.args.space.now).shape) _ c.args.table.now c.runs.scratch c.runs.held c.runs.n c.runs.table c.runs.invariant c.requires.room in
-    let w = c.write_rows-more.ensures.0 in
-    omega (arith, q, w)
-
-pub slice_bounds-close_rows-end : goal.slice_bounds-close_rows-end
-slice_bounds-close_rows-end g c =
-    let q = filled-room (lists (g.S.Space.means c.args.space.now).shape) _ c.args.table.now c.runs.scratch c.runs.held c.runs.n c.runs.table c.runs.invariant c.requires.room in
-    let w = c.write_rows-more.ensures.0 in
-    let l : c.runs.n ≤ length c.runs.table = omega (arith, q) in
-    let e = size_1 c.runs.n c.runs.table c.write_rows-more.new.part l c.write_rows-more.auto.part in
-    omega (arith, q, w, e)
+pub unreachable-requires-in_default-next_run : goal.unreachable-requires-in_default-next_run
+unreachable-requires-in_default-next_run g c =
+    let q = c.in_default-next_run.ensures in
+    let s = c.runs.invariant.1.size in
+    let l = subst (λ s. length c.runs.run.scratch.now < length (lists (g.S.Space.means s).shape q.1.0)) c.runs.invariant.0 q.1.2 in
+    never_longer (lists (g.S.Space.means c.args.space.now).shape) (length c.args.scratch.now) q.1.0 c.requires.held q.1.1 (omega (arith, s, l))
 
 pub returns-in-None : goal.returns-in-None
 returns-in-None g c =
     let list = lists (g.S.Space.means c.args.space.now).shape in
-    let k : Ended list c.runs.held.address 18446744073709551615 (length c.runs.scratch) =
-    MatchOption-at_none (Ended list c.runs.held.address 18446744073709551615 (length c.runs.scratch))
-    (λ (s : Stretch). (c.runs.held.address < s.address) × Ended list c.runs.held.address (s.address - 1) (length c.runs.scratch) × Held list c.extend.new.scratch s)
-    c.in-None.is c.in-Ok-extend.ensures in
-    let w = c.write_rows-more.ensures in
-    let p = filled_last list _ c.args.table.now c.runs.scratch c.runs.held c.runs.n c.runs.table c.runs.invariant c.requires.room
-    c.write_rows-more.result c.write_rows-more.new.part w.0 w.1 18446744073709551615 c.close_rows.new.part c.close_rows.ensures k.run refl in
+    let run = c.runs.run in
+    let e = c.runs.invariant.0 in
+    let x = c.names.ensures ∙ ap (λ s. lists (g.S.Space.means s).shape run.held.address) e in
+    let k = rw (c.in-None.is, e) at c.in-Ok-next_run.ensures in
+    let w = rw c.start.ensures at c.write_rows.ensures in
+    let p = filled_last list _ c.args.table.now run.scratch.now run.held c.runs.n c.runs.table c.runs.invariant.1 c.requires.room c.names.result.now x
+    c.write_rows.result c.write_rows.new.part w.0 w.1 18446744073709551615 c.close_rows.new.part c.close_rows.ensures k.run refl in
     record { count = p.0; flat = p.1; kept = p.2 }
-
-pub slice_bounds-close_rows-end-in-Some : goal.slice_bounds-close_rows-end-in-Some
-slice_bounds-close_rows-end-in-Some g c =
-    let q = filled-room (lists (g.S.Space.means c.args.space.now).shape) _ c.args.table.now c.runs.scratch c.runs.held c.runs.n c.runs.table c.runs.invariant c.requires.room in
-    let w = c.write_rows-more.ensures.0 in
-    let l : c.runs.n ≤ length c.runs.table = omega (arith, q) in
-    let e = size_1 c.runs.n c.runs.table c.write_rows-more.new.part l c.write_rows-more.auto.part in
-    omega (arith, q, w, e)
 
 pub runs-preserved : goal.runs-preserved
 runs-preserved g c =
     let list = lists (g.S.Space.means c.args.space.now).shape in
-    let t = c.in-Some.next in
-    let k : (c.runs.held.address < t.address) × Ended list c.runs.held.address (t.address - 1) (length c.runs.scratch) × Held list c.extend.new.scratch t =
-    MatchOption-at_some (Ended list c.runs.held.address 18446744073709551615 (length c.runs.scratch))
-    (λ (s : Stretch). (c.runs.held.address < s.address) × Ended list c.runs.held.address (s.address - 1) (length c.runs.scratch) × Held list c.extend.new.scratch s)
-    t c.in-Some.is c.in-Ok-extend.ensures in
-    let w = c.write_rows-more.ensures in
-    let f : length c.runs.scratch ≡ length c.hold.new.scratch = c.runs.invariant.size in
-    filled_more list (length c.hold.new.scratch) c.args.table.now c.runs.scratch c.runs.held c.runs.n c.runs.table c.runs.invariant c.requires.room
-    c.write_rows-more.result c.write_rows-more.new.part w.0 w.1 (t.address - 1) c.close_rows-in-Some.new.part c.close_rows-in-Some.ensures k.1.run
-    c.extend.new.scratch t refl k.0 (omega (arith, f)) k.2
+    let run = c.runs.run in
+    let next = c.in-Some.next in
+    let e = c.runs.invariant.0 in
+    let f = c.runs.invariant.1 in
+    let x = c.names.ensures ∙ ap (λ s. lists (g.S.Space.means s).shape run.held.address) e in
+    let k = rw (c.in-Some.is, e, f.size) at c.in-Ok-next_run.ensures in
+    let w = rw c.start.ensures at c.write_rows.ensures in
+    let h = subst (λ s. Held (lists (g.S.Space.means s).shape) next.scratch.now next.held) k.2 next.holds in (
+      k.2,
+      filled_more list _ c.args.table.now run.scratch.now run.held c.runs.n c.runs.table f c.requires.room c.names.result.now x
+          c.write_rows.result c.write_rows.new.part w.0 w.1 (next.held.address - 1) c.close_rows-in-Some.new.part (rw c.start-in-Some.ensures at c.close_rows-in-Some.ensures) k.1.run
+          next.scratch.now next.held refl k.0 k.3 h,
+    )

@@ -8,7 +8,7 @@ use Rattle.nets.proofs.methods.NetSpace.meets.Goals as goal
 
 pub unreachable-requires : goal.unreachable-requires
 unreachable-requires g c =
-    never (inner c.args.self.now.table) (g.B.Space.means c.args.self.now.below).shape c.entry.result c.args.address c.in-Err.field-0 (omega arith) c.in-Err.ensures c.entry.ensures
+    never (inner c.args.self.now.table) (g.B.Space.means c.args.self.now.below).shape c.entry.result c.args.address c.in_default.field-0 (omega arith) c.in_default.ensures c.entry.ensures
 
 pub returns : goal.returns
 returns g c =
