@@ -1,5 +1,5 @@
 -- The round trip: enter, accept blocks, map blocks, overlays, each granted in its turn.
-use Rattle.std.proofs.Common.{◌≡◌, ℕ, zero, suc, ◌+◌, ◌<◌, ◌≤◌, Bool, true, false, cond, leb, ◌⊎◌, List, [], ◌∷◌, ◌++◌, map, length, get_or, set, replicate, Ok, Result, sym, refl, ap, ◌∙◌, subst, inl, inr, arith}
+use Rattle.std.proofs.Common.{◌≡◌, ℕ, zero, suc, ◌+◌, ◌<◌, ◌≤◌, Bool, true, false, cond, leb, ◌⊎◌, List, [], ◌∷◌, ◌++◌, map, length, get_or, set, replicate, Some, None, Option, Ok, Result, sym, refl, ap, ◌∙◌, subst, inl, inr, arith}
 use Rattle.std.specs.List.{AllByRecursion}
 use Rattle.std.proofs.lemmas.List.{append_assoc, append-nil, length-append, length_push, length-map, length-take, set_at, get_or_at, get_or-replicate, get_or_past, length-replicate}
 use Rattle.std.proofs.lemmas.Bool.{leb-true, leb-false, cases_lt}
@@ -13,6 +13,9 @@ use Rattle.model.proofs.Bounds.{bound_walked, walked_bound}
 use Rattle.model.proofs.Fewer.{less_bound, first_maps, some_overlays}
 use Rattle.blocks.specs.declared.stored.Accepted.{Accepted}
 use Rattle.blocks.specs.declared.stored.Mapped.{Mapped}
+use Rattle.blocks.specs.declared.destination.Destination.{Destination}
+use Rattle.blocks.specs.declared.destination.Destination.TheVariants.{Node, Below}
+use Rattle.blocks.specs.Destinations.{overlay_number, OverlayKnown}
 use Rattle.blocks.specs.Apart.{apart}
 use Rattle.blocks.specs.Shape.{kept, accept_block, map_block}
 use Rattle.blocks.proofs.Changes.{swap_accept, swap-map}
@@ -160,6 +163,16 @@ good_maps : (xs : List Mapped) → AllByRecursion GoodMap (map map_block xs)
 good_maps [] = tt
 good_maps (x ∷ xs) = (record { node_known = x.valid.0; destination_known = x.valid.1; rises = x.valid.2; low = x.valid.3; target_fits = x.valid.4 }, good_maps xs)
 
+low_number : (o : Option Destination) → OverlayKnown o → overlay_number o ≤ 33
+low_number None h = omega arith
+low_number (Some Below) h = omega arith
+low_number (Some (Node n)) h = let k : n < 32 = h n refl in omega arith
+
+low_numbers : (os : List (Option Destination)) → ((k : ℕ) → OverlayKnown (get_or os k None)) → (n : ℕ) → get_or (map overlay_number os) n 0 ≤ 33
+low_numbers [] h n = let e = get_or_past {X = ℕ} [] n 0 (omega arith) in omega arith
+low_numbers (o ∷ os) h zero = low_number o (h 0)
+low_numbers (o ∷ os) h (suc n) = low_numbers os (λ k. h (suc k)) n
+
 pub tables_storable : TablesStorable
 tables_storable t =
     let b = t.blocks in
@@ -171,7 +184,7 @@ tables_storable t =
       maps_apart = b.valid.3;
       few_accepts = let e = length-map (held b.accepts) accept_block in let n = length-take b.accepts.len b.accepts.items in let h = b.accepts.ok in omega arith;
       few_maps = let e = length-map (held b.maps) map_block in let n = length-take b.maps.len b.maps.items in let h = b.maps.ok in omega arith;
-      all_nodes = b.valid.4;
-      overlays_known = b.valid.1;
+      all_nodes = length-map b.overlays overlay_number ∙ b.valid.4;
+      overlays_known = low_numbers b.overlays b.valid.1;
       walks_end = bound_walked (kept b) t.bounded;
     }

@@ -1,2 +1,4 @@
 pub mod Pastes
 pub mod Lined
+pub mod Writers
+pub mod Whole

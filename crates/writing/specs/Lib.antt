@@ -1,3 +1,4 @@
 pub mod Pasting
 pub mod Texts
 pub mod Fields
+pub mod Adding

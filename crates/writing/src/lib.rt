@@ -1,6 +1,6 @@
 #![tactic(auto)]
 
 // What a net keeps, written as lines of frames.
-mod digits;
 mod line;
 pub mod write;
+mod writer;

@@ -1,135 +1,96 @@
-ghost use Rattle.std.specs.Prelude.{◌≡◌, ◌+◌, ◌*◌, ◌≤◌, length};
-ghost use Rattle.writing.specs.Pasting.{pasted};
-ghost use Rattle.writing.specs.Fields.{line_of, width};
-ghost use Rattle.writing.specs.Texts.{enter_line, accept_line, map_line, overlay_line, set_or_not};
+ghost use Rattle.std.specs.Prelude.{ℕ, List};
+ghost use Rattle.blocks.specs.Destinations.{overlay_number, OverlayKnown};
+ghost use Rattle.blocks.specs.Shape.{accept_block, kept, map_block};
+ghost use Rattle.writing.specs.Adding.{Adds, Fits};
+ghost use Rattle.writing.specs.Texts.{enter_line, accept_line, map_line, lines, overlay_line, overlay_lines};
 
-use crate::digits::write_number;
-use model::blocks::{AcceptBlock, MapBlock};
+use crate::writer::Writer;
+use blocks::destination::Destination;
+use blocks::stored::{Accepted, Blocks, Mapped};
+use frames::kind::Kind;
 
-// The destination of a node that has no overlay.
-pub(crate) const NO_OVERLAY: u8 = 33;
+// What has a line.
+pub(crate) trait Line {
+    ghost text: { Self → List ℕ };
 
-// A number of a line, and in how many digits it is written.
-#[derive(Clone, Copy)]
-struct Field {
-    value: u64,
-    digits: usize,
+    fn write(&self, writer: &mut Writer<'_>)
+        requires { Fits (text self.now) writer.old }
+        ensures { Adds (text self.now) writer.old writer.new };
 }
 
-// Writes the numbers of a line, with no space between them, and a line feed; tells where the line ends.
-fn write_line(out: &mut [u8], at: usize, fields: &[Field]) -> usize
-    requires { at + width fields.now ≤ length out.old }
-    ensures end { result ≡ at + width fields.now }
-    ensures out { out.new ≡ pasted (line_of fields.now) at out.old }
-{
-    let mut next = at;
-    for field in fields {
-        next = write_number(out, next, field.value, field.digits);
+impl Line for Accepted {
+    ghost text = { λ x. accept_line (accept_block x) };
+
+    fn write(&self, writer: &mut Writer<'_>) {
+        let block = self.block;
+        let fields = [
+            Kind::Accept.into(),
+            block.node.into(),
+            block.lo.into(),
+            block.hi.into(),
+        ];
+        writer.line(&fields);
     }
-    out[next] = b'\n';
-    next + 1
 }
 
-pub(crate) fn write_enter(out: &mut [u8], at: usize, node: u8) -> usize
-    requires { at + 5 ≤ length out.old }
-    ensures end { result ≡ at + 5 }
-    ensures out { out.new ≡ pasted (enter_line node) at out.old }
-{
-    let fields = [
-        Field {
-            value: 0x45,
-            digits: 2,
-        },
-        Field {
-            value: u64::from(node),
-            digits: 2,
-        },
-    ];
-    write_line(out, at, &fields)
-}
+impl Line for Mapped {
+    ghost text = { λ x. map_line (map_block x) };
 
-pub(crate) fn write_accept(out: &mut [u8], at: usize, block: AcceptBlock) -> usize
-    requires { at + 37 ≤ length out.old }
-    ensures end { result ≡ at + 37 }
-    ensures out { out.new ≡ pasted (accept_line block) at out.old }
-{
-    let fields = [
-        Field {
-            value: 0x41,
-            digits: 2,
-        },
-        Field {
-            value: u64::from(block.node),
-            digits: 2,
-        },
-        Field {
-            value: block.lo,
-            digits: 16,
-        },
-        Field {
-            value: block.hi,
-            digits: 16,
-        },
-    ];
-    write_line(out, at, &fields)
-}
-
-pub(crate) fn write_map(out: &mut [u8], at: usize, block: MapBlock) -> usize
-    requires { at + 55 ≤ length out.old }
-    ensures end { result ≡ at + 55 }
-    ensures out { out.new ≡ pasted (map_line block) at out.old }
-{
-    let fields = [
-        Field {
-            value: 0x4d,
-            digits: 2,
-        },
-        Field {
-            value: u64::from(block.node),
-            digits: 2,
-        },
-        Field {
-            value: block.lo,
-            digits: 16,
-        },
-        Field {
-            value: block.hi,
-            digits: 16,
-        },
-        Field {
-            value: u64::from(block.destination),
-            digits: 2,
-        },
-        Field {
-            value: block.base,
-            digits: 16,
-        },
-    ];
-    write_line(out, at, &fields)
-}
-
-// A node without an overlay has no line.
-pub(crate) fn write_overlay(out: &mut [u8], at: usize, node: u8, destination: u8) -> usize
-    requires { at + 7 * set_or_not destination ≤ length out.old }
-    ensures end { result ≡ at + 7 * set_or_not destination }
-    ensures out { out.new ≡ pasted (overlay_line node destination) at out.old }
-{
-    if destination >= NO_OVERLAY {
-        return at;
+    fn write(&self, writer: &mut Writer<'_>) {
+        let block = self.block;
+        let fields = [
+            Kind::Map.into(),
+            block.node.into(),
+            block.lo.into(),
+            block.hi.into(),
+            block.destination.into(),
+            block.base.into(),
+        ];
+        writer.line(&fields);
     }
-    let fields = [
-        Field {
-            value: 0x4f,
-            digits: 2,
-        },
-        Field {
-            value: u64::from(node),
-            digits: 2,
-        },
-        Field {
-            value: u64::from(destination),
-            digits: 2,
-        },
-    ];
-    write_line(out, at, &fields)
+}
+
+impl Writer<'_> {
+    pub(crate) fn lines<L: Line>(&mut self, all: &[L])
+        requires { Fits (lines L.text all.now) self.old }
+        ensures { Adds (lines L.text all.now) self.old self.new }
+    {
+        for one in all {
+            one.write(self);
+        }
+    }
+
+    pub(crate) fn enter(&mut self, node: u8)
+        requires { Fits (enter_line node) self.old }
+        ensures { Adds (enter_line node) self.old self.new }
+    {
+        self.line(&[Kind::Enter.into(), node.into()]);
+    }
+
+    // A node without an overlay has no line.
+    fn overlay(&mut self, node: u8, overlay: Option<Destination>)
+        requires known { OverlayKnown overlay }
+        requires room { Fits (overlay_line node (overlay_number overlay)) self.old }
+        ensures { Adds (overlay_line node (overlay_number overlay)) self.old self.new }
+    {
+        match overlay {
+            Some(destination) => self.line(&[
+                Kind::Over.into(),
+                node.into(),
+                u8::from(destination).into(),
+            ]),
+            None => {}
+        }
+    }
+
+    // The overlays stand by node, from 0.
+    pub(crate) fn overlays(&mut self, blocks: &Blocks)
+        requires { Fits (overlay_lines 0 (kept blocks.now).overlays) self.old }
+        ensures { Adds (overlay_lines 0 (kept blocks.now).overlays) self.old self.new }
+    {
+        let overlays = &blocks.overlays[..];
+        for (node, overlay) in overlays.iter().enumerate() {
+            self.overlay(node as u8, *overlay);
+        }
+    }
 }
