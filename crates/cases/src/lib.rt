@@ -17,3 +17,5 @@ mod stacks;
 mod tables;
 #[cfg(test)]
 mod texts;
+#[cfg(test)]
+mod worked;

@@ -1,9 +1,9 @@
 // Lines and what they are read as.
+use crate::worked::{accept, map};
 use frames::frame::{Frame, Kinds};
 use frames::line::LineReader;
 use frames::read::read_frame;
 use frames::reader::read_line;
-use model::blocks::{AcceptBlock, MapBlock};
 use model::faults::Fault;
 
 #[test]
@@ -21,24 +21,14 @@ fn frames_of_a_net_are_read(rt: HostRuntime) {
     );
     assert_eq!(rt;
         read_line(Kinds::Net, b"410100000000000010000000000000001fff"),
-        Ok(Frame::Accept(AcceptBlock {
-            node: 1,
-            lo: 0x1000,
-            hi: 0x1fff,
-        }))
+        Ok(Frame::Accept(accept(1, 0x1000, 0x1fff)))
     );
     assert_eq!(rt;
         read_line(
             Kinds::Net,
             b"4d0500000000000010000000000000001fff20abcdef0123456789",
         ),
-        Ok(Frame::Map(MapBlock {
-            node: 5,
-            lo: 0x1000,
-            hi: 0x1fff,
-            destination: 32,
-            base: 0xabcd_ef01_2345_6789,
-        }))
+        Ok(Frame::Map(map(5, 0x1000, 0x1fff, 32, 0xabcd_ef01_2345_6789)))
     );
 }
 
@@ -50,11 +40,7 @@ fn frames_of_a_program_are_read(rt: HostRuntime) {
     );
     assert_eq!(rt;
         read_line(Kinds::Program, b"610100000000000010000000000000001fff"),
-        Ok(Frame::DropAccept(AcceptBlock {
-            node: 1,
-            lo: 0x1000,
-            hi: 0x1fff,
-        }))
+        Ok(Frame::DropAccept(accept(1, 0x1000, 0x1fff)))
     );
     assert_eq!(rt;
         read_line(Kinds::Net, b"610100000000000010000000000000001fff"),

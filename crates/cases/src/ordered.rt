@@ -1,11 +1,6 @@
-use model::blocks::AcceptBlock;
-use model::names::Name;
+use crate::worked::{accept, name};
 use sets::member::contains;
 use sets::sorted::{find, make_set};
-
-const fn name(component: u32, address: u64) -> Name {
-    Name { component, address }
-}
 
 #[test]
 fn repeats_count_once(rt: HostRuntime) {
@@ -18,38 +13,9 @@ fn repeats_count_once(rt: HostRuntime) {
 
 #[test]
 fn every_field_counts(rt: HostRuntime) {
-    let blocks = [
-        AcceptBlock {
-            node: 1,
-            lo: 0,
-            hi: 9,
-        },
-        AcceptBlock {
-            node: 0,
-            lo: 4,
-            hi: 4,
-        },
-    ];
-    assert!(rt;
-        contains(
-            &blocks,
-            AcceptBlock {
-                node: 0,
-                lo: 4,
-                hi: 4,
-            },
-        )
-    );
-    assert!(rt;
-        !contains(
-            &blocks,
-            AcceptBlock {
-                node: 1,
-                lo: 0,
-                hi: 4,
-            },
-        )
-    );
+    let blocks = [accept(1, 0, 9), accept(0, 4, 4)];
+    assert!(rt; contains(&blocks, accept(0, 4, 4)));
+    assert!(rt; !contains(&blocks, accept(1, 0, 4)));
 }
 
 #[test]

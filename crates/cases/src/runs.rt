@@ -1,66 +1,42 @@
-use model::blocks::AcceptBlock;
+use crate::worked::{accept, bank, name};
 use model::faults::Fault;
-use model::names::Name;
 use nets::edit::NetEdit;
 use nets::net::Net;
 use serve::call::{Answer, Call};
 use serve::run::serve;
 use space::Space;
-use space::bank::Bank;
 use std::test::Fail;
 
 #[test]
 fn each_call_finds_what_the_earlier_left(rt: HostRuntime) -> Result<(), Fail> {
-    let mut net = Net::new(
-        0,
-        Bank {
-            component: 0,
-            size: 0,
-        },
-    );
-    let mut calls = Vec::new(rt.alloc());
-    calls.push(Call::Edit(NetEdit::Over {
-        node: 0,
-        destination: 1,
-    }))?;
-    calls.push(Call::Edit(NetEdit::Accept(AcceptBlock {
-        node: 1,
-        lo: 0x1000,
-        hi: 0x1fff,
-    })))?;
-    calls.push(Call::Edit(NetEdit::Over {
-        node: 1,
-        destination: 0,
-    }))?;
-    calls.push(Call::Edit(NetEdit::Plug(Bank {
-        component: 3,
-        size: 1,
-    })))?;
+    let mut net = Net::new(0, bank(0, 0));
+    let calls = vec![in rt.alloc();
+        Call::Edit(NetEdit::Over {
+            node: 0,
+            destination: 1,
+        }),
+        Call::Edit(NetEdit::Accept(accept(1, 0x1000, 0x1fff))),
+        Call::Edit(NetEdit::Over {
+            node: 1,
+            destination: 0,
+        }),
+        Call::Edit(NetEdit::Plug(bank(3, 1))),
+    ]?;
     let mut answers = serve(rt.alloc(), &mut net, calls)?;
-    assert!(rt;
-        net.meets(
-            0x1004,
-            Name {
-                component: 1,
-                address: 0x1004,
-            },
-        )
+    assert!(rt; net.meets(0x1004, name(1, 0x1004)));
+    let Some(Answer::Edited(plugged)) = answers.pop() else {
+        return Err(Fail::new("a plug is not answered"));
+    };
+    assert_eq!(rt; plugged, Ok(()));
+    let Some(Answer::Edited(ringed)) = answers.pop() else {
+        return Err(Fail::new("a ring is not answered"));
+    };
+    assert_eq!(rt;
+        ringed,
+        Err(Fault::WalkTooLong {
+            node: 0,
+            address: 0,
+        })
     );
-    match answers.pop() {
-        Some(Answer::Edited(result)) => assert_eq!(rt; result, Ok(())),
-        _ => return Err(Fail::new("a plug is not answered")),
-    }
-    match answers.pop() {
-        Some(Answer::Edited(result)) => {
-            assert_eq!(rt;
-                result,
-                Err(Fault::WalkTooLong {
-                    node: 0,
-                    address: 0,
-                })
-            );
-            Ok(())
-        },
-        _ => Err(Fail::new("a ring is not answered")),
-    }
+    Ok(())
 }

@@ -1,22 +1,17 @@
+use crate::worked::{board, map, name, record};
 use flatten::compare::compare;
 use flatten::flat::flatten;
 use layers::renaming::Renaming;
 use layers::window::Window;
-use model::blocks::{AcceptBlock, MapBlock};
 use model::faults::Fault;
 use model::names::Name;
 use model::records::Record;
 use nets::net::Net;
 use space::Space;
-use space::bank::Bank;
 use space::flat::FlatTable;
 use std::test::Fail;
 
-const ZERO: Name = Name {
-    component: 0,
-    address: 0,
-};
-
+// What records hold before a call.
 const BLANK: Record = Record {
     lo: 7,
     hi: 7,
@@ -24,77 +19,23 @@ const BLANK: Record = Record {
     base: 7,
 };
 
-fn board(size: u64) -> Result<Net<Bank>, Fault> {
-    let mut board = Net::new(
-        2,
-        Bank {
-            component: 900,
-            size,
-        },
-    );
-    board.over(0, 1)?;
-    board.accept(AcceptBlock {
-        node: 1,
-        lo: 0x8000,
-        hi: 0x8fff,
-    })?;
-    board.map(MapBlock {
-        node: 0,
-        lo: 0x4000,
-        hi: 0x4fff,
-        destination: 2,
-        base: 0,
-    })?;
-    board.map(MapBlock {
-        node: 2,
-        lo: 0,
-        hi: 0xfff,
-        destination: 32,
-        base: 0,
-    })?;
-    board.map(MapBlock {
-        node: 2,
-        lo: 0,
-        hi: 0xff,
-        destination: 1,
-        base: 0x8000,
-    })?;
-    Ok(board)
-}
-
 #[test]
 fn a_board_flattens_to_four_records(rt: HostRuntime) -> Result<(), Fail> {
     let board = board(0x1000)?;
-    let mut scratch = [ZERO; 2];
+    let mut scratch = [Name::default(); 2];
     let mut table = [BLANK; 5];
     assert_eq!(rt; flatten(&board, &mut scratch, &mut table), Ok(4));
-    assert_eq!(rt;
-        table[2],
-        Record {
-            lo: 0x4100,
-            hi: 0x4fff,
-            component: 900,
-            base: 0x100,
-        }
-    );
-    assert_eq!(rt;
-        table[3],
-        Record {
-            lo: 0x8000,
-            hi: 0x8fff,
-            component: 65,
-            base: 0x8000,
-        }
-    );
+    assert_eq!(rt; table[2], record(0x4100, 0x4fff, 900, 0x100));
+    assert_eq!(rt; table[3], record(0x8000, 0x8fff, 65, 0x8000));
     assert_eq!(rt; table[4], BLANK);
-    assert_eq!(rt; scratch[0], ZERO);
+    assert_eq!(rt; scratch[0], name(0, 0));
     let mut short = [BLANK; 3];
     assert_eq!(rt;
         flatten(&board, &mut scratch, &mut short),
         Err(Fault::BufferShort)
     );
     assert_eq!(rt; short[0], BLANK);
-    let mut one = [ZERO; 1];
+    let mut one = [Name::default(); 1];
     assert_eq!(rt;
         flatten(&board, &mut one, &mut table),
         Err(Fault::ScratchShort)
@@ -106,8 +47,8 @@ fn a_board_flattens_to_four_records(rt: HostRuntime) -> Result<(), Fail> {
 fn a_smaller_bank_differs_first_at_its_end(rt: HostRuntime) -> Result<(), Fail> {
     let board_whole = board(0x1000)?;
     let board_short = board(0xfff)?;
-    let mut scratch = [ZERO; 2];
-    let mut other = [ZERO; 2];
+    let mut scratch = [Name::default(); 2];
+    let mut other = [Name::default(); 2];
     assert_eq!(rt;
         compare(&board_whole, &board_short, &mut scratch, &mut other),
         Ok(Some(0x4fff))
@@ -116,7 +57,7 @@ fn a_smaller_bank_differs_first_at_its_end(rt: HostRuntime) -> Result<(), Fail> 
         compare(&board_whole, &board_whole, &mut scratch, &mut other),
         Ok(None)
     );
-    let mut one = [ZERO; 1];
+    let mut one = [Name::default(); 1];
     assert_eq!(rt;
         compare(&board_whole, &board_short, &mut scratch, &mut one),
         Err(Fault::SecondScratchShort)
@@ -126,12 +67,7 @@ fn a_smaller_bank_differs_first_at_its_end(rt: HostRuntime) -> Result<(), Fail> 
 
 #[test]
 fn a_stack_of_all_layers_decodes(rt: HostRuntime) -> Result<(), Fail> {
-    let rows = [Record {
-        lo: 0x100,
-        hi: 0x1ff,
-        component: 5,
-        base: 0,
-    }];
+    let rows = [record(0x100, 0x1ff, 5, 0)];
     let mut table = FlatTable::new();
     assert_eq!(rt; table.fill(&rows), Ok(()));
     decodes_through_all_layers(table)
@@ -157,35 +93,12 @@ fn decodes_through_all_layers<B: Space + Drop>(bottom: B) -> Result<(), Fail> {
     check_eq(renaming.pair(5, 6), Ok(()))?;
     check_eq(renaming.pair(5, 7), Err(Fault::AlreadyThere))?;
     let mut stack = Net::new(1, renaming);
-    check_eq(
-        stack.map(MapBlock {
-            node: 0,
-            lo: 0,
-            hi: 0xff,
-            destination: 32,
-            base: 0,
-        }),
-        Ok(()),
-    )?;
-    let mut slots = [ZERO; 2];
+    check_eq(stack.map(map(0, 0, 0xff, 32, 0)), Ok(()))?;
+    let mut slots = [Name::default(); 2];
     check_eq(stack.look(0x1f, &mut slots), Ok((1, 0x1f)))?;
-    check_eq(
-        slots[0],
-        Name {
-            component: 6,
-            address: 0xff,
-        },
-    )?;
+    check_eq(slots[0], name(6, 0xff))?;
     check_eq(stack.look(0x20, &mut slots), Ok((0, 0x2f)))?;
     let mut records = [BLANK; 2];
     check_eq(flatten(&stack, &mut slots, &mut records), Ok(1))?;
-    check_eq(
-        records[0],
-        Record {
-            lo: 0x10,
-            hi: 0x1f,
-            component: 6,
-            base: 0xf0,
-        },
-    )
+    check_eq(records[0], record(0x10, 0x1f, 6, 0xf0))
 }

@@ -1,36 +1,10 @@
-use model::blocks::{AcceptBlock, MapBlock};
+use crate::worked::{accept, board_table, map};
 use model::faults::Fault;
 use std::test::Fail;
-use table::table::Table;
-
-const fn accept(node: u8, lo: u64, hi: u64) -> AcceptBlock {
-    AcceptBlock { node, lo, hi }
-}
-
-const fn map(node: u8, lo: u64, hi: u64, destination: u8, base: u64) -> MapBlock {
-    MapBlock {
-        node,
-        lo,
-        hi,
-        destination,
-        base,
-    }
-}
-
-// Node 0 overlays 1, and sends one page to 2, which sends it below, and its first 256 addresses to 1 too.
-fn board() -> Result<Table, Fault> {
-    let mut board = Table::new(2);
-    board.over(0, 1)?;
-    board.accept(accept(1, 0x8000, 0x8fff))?;
-    board.map(map(0, 0x4000, 0x4fff, 2, 0))?;
-    board.map(map(2, 0, 0xfff, 32, 0))?;
-    board.map(map(2, 0, 0xff, 1, 0x8000))?;
-    Ok(board)
-}
 
 #[test]
 fn a_ring_of_overlays_is_refused(rt: HostRuntime) -> Result<(), Fail> {
-    let mut board = board()?;
+    let mut board = board_table()?;
     assert_eq!(rt;
         board.over(1, 0),
         Err(Fault::WalkTooLong {
@@ -47,7 +21,7 @@ fn a_ring_of_overlays_is_refused(rt: HostRuntime) -> Result<(), Fail> {
 
 #[test]
 fn the_same_block_is_refused(rt: HostRuntime) -> Result<(), Fail> {
-    let mut board = board()?;
+    let mut board = board_table()?;
     assert_eq!(rt;
         board.accept(accept(1, 0x8000, 0x8fff)),
         Err(Fault::AlreadyThere)
@@ -62,7 +36,7 @@ fn the_same_block_is_refused(rt: HostRuntime) -> Result<(), Fail> {
 
 #[test]
 fn a_target_ends_at_the_last_address(rt: HostRuntime) -> Result<(), Fail> {
-    let mut board = board()?;
+    let mut board = board_table()?;
     assert_eq!(rt;
         board.map(map(0, u64::MAX - 1, u64::MAX, 1, u64::MAX)),
         Err(Fault::TargetPastTop)
@@ -73,10 +47,10 @@ fn a_target_ends_at_the_last_address(rt: HostRuntime) -> Result<(), Fail> {
 
 #[test]
 fn sixty_four_names_are_the_most(rt: HostRuntime) -> Result<(), Fail> {
-    let mut short = board()?;
+    let mut short = board_table()?;
     assert_eq!(rt; short.map(map(3, 0, 0x3e, 3, 1)), Ok(()));
     assert!(rt; short.walk(3, 0).is_ok());
-    let mut long = board()?;
+    let mut long = board_table()?;
     assert_eq!(rt;
         long.map(map(3, 0, 0x3f, 3, 1)),
         Err(Fault::WalkTooLong {
@@ -89,7 +63,7 @@ fn sixty_four_names_are_the_most(rt: HostRuntime) -> Result<(), Fail> {
 
 #[test]
 fn a_drop_can_uncover_a_ring(rt: HostRuntime) -> Result<(), Fail> {
-    let mut board = board()?;
+    let mut board = board_table()?;
     assert_eq!(rt; board.accept(accept(5, 0, u64::MAX)), Ok(()));
     assert_eq!(rt; board.over(4, 5), Ok(()));
     assert_eq!(rt; board.over(5, 4), Ok(()));

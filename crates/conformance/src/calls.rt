@@ -1,6 +1,6 @@
 // Each call made of both implementations, and the answers compared.
-use crate::same::{accept_block, answer, map_block, names, records};
-use crate::tally::Tally;
+use crate::bench::{Bench, Both};
+use crate::same::{Told, accept_block, all_told, answer, asked, map_block};
 use flatten::compare::compare;
 use flatten::flat::flatten;
 use layers::renaming::Renaming;
@@ -9,13 +9,13 @@ use model::names::Name;
 use model::records::Record;
 use nets::net::Net;
 use plain::net::Edit;
-use plain::runs::Compared;
-use plain::stack::{Stack, pair};
+use plain::stack::pair;
 use plain::texts::write;
-use plain::words::{No, Stretch};
+use plain::words::No;
 use plain::{net, words};
 use space::Space;
 use std::alloc::{AllocError, Global};
+use std::collections::BTreeMap;
 
 // What is shown of a call where its answers differ.
 #[derive(Clone, Copy, Debug)]
@@ -36,11 +36,6 @@ const MARK: Name = Name {
     address: 7,
 };
 
-const PLAIN_MARK: words::Name = words::Name {
-    component: 7,
-    address: 7,
-};
-
 const ROW: Record = Record {
     lo: 7,
     hi: 7,
@@ -48,11 +43,27 @@ const ROW: Record = Record {
     base: 7,
 };
 
-const PLAIN_ROW: words::Record = words::Record {
-    at: Stretch { lo: 7, hi: 7 },
-    component: 7,
-    base: 7,
-};
+// The same slots for both implementations.
+#[derive(Drop)]
+struct Slots {
+    first: Vec<Name>,
+    second: Vec<words::Name>,
+}
+
+impl Slots {
+    fn new(heap: Global, room: usize) -> Result<Slots, AllocError> {
+        Ok(Slots {
+            first: vec![in heap; MARK; room]?,
+            second: vec![in heap; MARK.told(); room]?,
+        })
+    }
+
+    // Compares what a call left in them.
+    fn compare(&self, bench: &mut Bench, call: &Call) -> Result<(), AllocError> {
+        let told = all_told(bench.heap, self.first.as_slice())?;
+        bench.tally.same(call, &told, &self.second)
+    }
+}
 
 fn edited<B: Space>(net: &mut Net<B>, edit: &Edit) -> Result<(), Fault> {
     match edit {
@@ -65,164 +76,181 @@ fn edited<B: Space>(net: &mut Net<B>, edit: &Edit) -> Result<(), Fault> {
     }
 }
 
+// The two nets apart, not a `Both`: while it is edited the second one is in no stack.
 pub fn call_edit<B: Space>(
-    t: &mut Tally,
+    bench: &mut Bench,
     first: &mut Net<B>,
     second: &mut net::Net,
     edit: Edit,
 ) -> Result<(), AllocError> {
     let one = answer(edited(first, &edit));
-    let two = second.edit(t.heap, edit);
-    t.answer(&Call::Edit(edit), &one, &two)
+    let two = second.edit(bench.heap, edit);
+    bench.tally.answer(&Call::Edit(edit), &one, &two)
 }
 
 pub fn call_pair<B: Space>(
-    t: &mut Tally,
+    bench: &mut Bench,
     first: &mut Renaming<B>,
-    second: &mut Vec<(u32, u32)>,
+    second: &mut BTreeMap<u32, u32>,
     from: u32,
     to: u32,
 ) -> Result<(), AllocError> {
     let one = answer(first.pair(from, to));
     let two = pair(second, from, to);
-    t.answer(&Call::Pair(from, to), &one, &two)
+    bench.tally.answer(&Call::Pair(from, to), &one, &two)
+}
+
+// A call that fills slots, of a look's kind.
+fn call_into<F, P>(
+    bench: &mut Bench,
+    call: Call,
+    room: usize,
+    first: F,
+    second: P,
+) -> Result<(), AllocError>
+where
+    F: FnOnce(&mut [Name]) -> Result<(usize, u64), Fault>,
+    P: FnOnce(&mut [words::Name]) -> Result<(usize, u64), No>,
+    requires first_call { F.IsAlwaysCallable first }
+    requires second_call { P.IsAlwaysCallable second }
+{
+    let mut slots = Slots::new(bench.heap, room)?;
+    let one = answer(first(slots.first.as_mut_slice()));
+    let two = second(slots.second.as_mut_slice());
+    bench.tally.answer(&call, &one, &two)?;
+    slots.compare(bench, &call)
 }
 
 pub fn call_look<S: Space>(
-    t: &mut Tally,
-    first: &S,
-    second: &Stack,
+    bench: &mut Bench,
+    both: &Both<S>,
     a: u64,
     room: usize,
 ) -> Result<(), AllocError> {
-    let mut slots = vec![in t.heap; MARK; room]?;
-    let mut plain_slots = vec![in t.heap; PLAIN_MARK; room]?;
-    let one = answer(first.look(a, slots.as_mut_slice()));
-    let two = second.look(t.heap, a, plain_slots.as_mut_slice());
-    let call = Call::Look(a, room);
-    t.answer(&call, &one, &two)?;
-    t.same(&call, &names(t.heap, slots.as_slice())?, &plain_slots)
+    let heap = bench.heap;
+    call_into(
+        bench,
+        Call::Look(a, room),
+        room,
+        |slots| both.first.look(a, slots),
+        |slots| both.second.look(heap, a, slots),
+    )
 }
 
 pub fn call_resolve<B: Space>(
-    t: &mut Tally,
-    first: &Net<B>,
-    second: &Stack,
+    bench: &mut Bench,
+    both: &Both<Net<B>>,
     node: u8,
     a: u64,
     room: usize,
 ) -> Result<(), AllocError> {
-    let mut slots = vec![in t.heap; MARK; room]?;
-    let mut plain_slots = vec![in t.heap; PLAIN_MARK; room]?;
-    let one = answer(first.resolve(node, a, slots.as_mut_slice()));
-    let two = second.resolve(t.heap, node, a, plain_slots.as_mut_slice());
-    let call = Call::Resolve(node, a, room);
-    t.answer(&call, &one, &two)?;
-    t.same(&call, &names(t.heap, slots.as_slice())?, &plain_slots)
+    let heap = bench.heap;
+    call_into(
+        bench,
+        Call::Resolve(node, a, room),
+        room,
+        |slots| both.first.resolve(node, a, slots),
+        |slots| both.second.resolve(heap, node, a, slots),
+    )
 }
 
 pub fn call_meets<S: Space>(
-    t: &mut Tally,
-    first: &S,
-    second: &Stack,
+    bench: &mut Bench,
+    both: &Both<S>,
     a: u64,
     name: words::Name,
 ) -> Result<(), AllocError> {
-    let asked = Name {
-        component: name.component,
-        address: name.address,
-    };
-    let one: Result<bool, No> = Ok(first.meets(a, asked));
-    let two: Result<bool, No> = Ok(second.meets(t.heap, a, name)?);
-    t.answer(&Call::Meets(a, name), &one, &two)
+    let one: Result<bool, No> = Ok(both.first.meets(a, asked(&name)));
+    let two: Result<bool, No> = Ok(both.second.meets(bench.heap, a, name)?);
+    bench.tally.answer(&Call::Meets(a, name), &one, &two)
 }
 
 // The rows of a table by run: where each begins, in order, and all of them sorted.
 fn by_run(
     heap: Global,
     table: &[words::Record],
-) -> Result<(Vec<u64>, Vec<(u64, u64, u32, u64)>), AllocError> {
-    let mut starts = Vec::new(heap);
-    let mut rows = Vec::new(heap);
-    for row in table {
-        starts.push(row.at.lo)?;
-        rows.push((row.at.lo, row.at.hi, row.component, row.base))?;
-    }
+) -> Result<(Vec<u64>, Vec<words::Record>), AllocError> {
+    let starts = table.iter().map(|row| row.shift.at.lo).collect(heap)?;
+    let mut rows = table.to_vec(heap)?;
     rows.sort()?;
     Ok((starts, rows))
 }
 
-// Flattens both, and gives the second's table where it is granted.
+// Flattens both, and gives the first's records where it is granted.
 pub fn call_flatten<S: Space>(
-    t: &mut Tally,
-    first: &S,
-    second: &Stack,
+    bench: &mut Bench,
+    both: &Both<S>,
     room: usize,
     many: usize,
-) -> Result<Option<(Vec<Record>, usize)>, AllocError> {
-    let mut scratch = vec![in t.heap; MARK; room]?;
-    let mut plain_scratch = vec![in t.heap; PLAIN_MARK; room]?;
-    let mut table = vec![in t.heap; ROW; many]?;
-    let mut plain_table = vec![in t.heap; PLAIN_ROW; many]?;
-    let one = answer(flatten(first, scratch.as_mut_slice(), table.as_mut_slice()));
-    let two = second.flatten(
-        t.heap,
+) -> Result<Option<Vec<Record>>, AllocError> {
+    let heap = bench.heap;
+    let mut scratch = Slots::new(heap, room)?;
+    let mut table = vec![in heap; ROW; many]?;
+    let mut plain_table = vec![in heap; ROW.told(); many]?;
+    let one = answer(flatten(
+        &both.first,
+        scratch.first.as_mut_slice(),
+        table.as_mut_slice(),
+    ));
+    let two = both.second.flatten(
+        heap,
         plain_table.as_mut_slice(),
-        plain_scratch.as_mut_slice(),
+        scratch.second.as_mut_slice(),
     );
     let call = Call::Flatten(room, many);
-    t.answer(&call, &one, &two)?;
-    t.same(&call, &names(t.heap, scratch.as_slice())?, &plain_scratch)?;
-    let told = records(t.heap, table.as_slice())?;
-    let rows = by_run(t.heap, told.as_slice())?;
-    t.same(&call, &rows, &by_run(t.heap, plain_table.as_slice())?)?;
-    match one {
-        Ok(count) => Ok(Some((table, count))),
-        Err(_) => Ok(None),
-    }
+    bench.tally.answer(&call, &one, &two)?;
+    scratch.compare(bench, &call)?;
+    let told = all_told(heap, table.as_slice())?;
+    let rows = by_run(heap, told.as_slice())?;
+    bench
+        .tally
+        .same(&call, &rows, &by_run(heap, plain_table.as_slice())?)?;
+    let Ok(count) = one else {
+        return Ok(None);
+    };
+    table.truncate(count);
+    Ok(Some(table))
 }
 
 pub fn call_compare<L: Space, R: Space>(
-    t: &mut Tally,
-    first: (&L, &R),
-    second: (&Stack, &Stack),
+    bench: &mut Bench,
+    left: &Both<L>,
+    right: &Both<R>,
     rooms: (usize, usize),
 ) -> Result<(), AllocError> {
-    let (left, right) = rooms;
-    let mut one = vec![in t.heap; MARK; left]?;
-    let mut other = vec![in t.heap; MARK; right]?;
-    let mut plain_one = vec![in t.heap; PLAIN_MARK; left]?;
-    let mut plain_other = vec![in t.heap; PLAIN_MARK; right]?;
-    let given = match answer(compare(first.0, first.1, one.as_mut_slice(), other.as_mut_slice())) {
-        Ok(None) => Ok(Compared::Equal),
-        Ok(Some(a)) => Ok(Compared::DifferAt(a)),
-        Err(no) => Err(no),
-    };
-    let found = second.0.compare(
-        t.heap,
-        second.1,
-        plain_one.as_mut_slice(),
-        plain_other.as_mut_slice(),
+    let mut one = Slots::new(bench.heap, rooms.0)?;
+    let mut other = Slots::new(bench.heap, rooms.1)?;
+    let given = answer(compare(
+        &left.first,
+        &right.first,
+        one.first.as_mut_slice(),
+        other.first.as_mut_slice(),
+    ));
+    let found = left.second.compare(
+        bench.heap,
+        &right.second,
+        one.second.as_mut_slice(),
+        other.second.as_mut_slice(),
     );
-    let call = Call::Compare(left, right);
-    t.answer(&call, &given, &found)?;
-    t.same(&call, &names(t.heap, one.as_slice())?, &plain_one)?;
-    t.same(&call, &names(t.heap, other.as_slice())?, &plain_other)
+    let call = Call::Compare(rooms.0, rooms.1);
+    bench.tally.answer(&call, &given, &found)?;
+    one.compare(bench, &call)?;
+    other.compare(bench, &call)
 }
 
 // Writes both nets as texts, and answers the count.
 pub fn call_write<B: Space>(
-    t: &mut Tally,
+    bench: &mut Bench,
     first: &Net<B>,
     second: &net::Net,
     room: usize,
 ) -> Result<usize, AllocError> {
-    let mut bytes = vec![in t.heap; 7u8; room]?;
-    let mut plain_bytes = vec![in t.heap; 7u8; room]?;
+    let mut bytes = vec![in bench.heap; 7u8; room]?;
+    let mut plain_bytes = vec![in bench.heap; 7u8; room]?;
     let one = answer(first.write(bytes.as_mut_slice()));
-    let two = write(t.heap, second, plain_bytes.as_mut_slice());
+    let two = write(bench.heap, second, plain_bytes.as_mut_slice());
     let call = Call::Write(room);
-    t.answer(&call, &one, &two)?;
-    t.same(&call, &bytes, &plain_bytes)?;
+    bench.tally.answer(&call, &one, &two)?;
+    bench.tally.same(&call, &bytes, &plain_bytes)?;
     Ok(two.unwrap_or(0))
 }

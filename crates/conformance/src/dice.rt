@@ -1,4 +1,5 @@
 // A small generator of its own, so that every run makes the same cases.
+use plain::words::Stretch;
 
 #[derive(Clone, Copy)]
 pub struct Dice {
@@ -41,8 +42,7 @@ impl Dice {
 
     // A number below n, or 0.
     pub fn below(&mut self, n: u64) -> u64 {
-        let rolled = self.roll();
-        if n == 0 { 0 } else { rolled % n }
+        self.roll().checked_rem(n).unwrap_or(0)
     }
 
     // A byte below n, or 0.
@@ -55,10 +55,15 @@ impl Dice {
         self.below(n) == 0
     }
 
+    // One of the items, where there is any.
+    pub fn one_of<T: Copy>(&mut self, items: &[T]) -> Option<T> {
+        let place = self.below(items.len() as u64);
+        items.get(place as usize).copied()
+    }
+
     // Mostly a seam or a neighbour of one, at times any address.
     pub fn address(&mut self) -> u64 {
-        let [low, ..] = self.below(16).to_le_bytes();
-        let seam = SEAMS.get(usize::from(low)).copied().unwrap_or(0);
+        let seam = self.one_of(&SEAMS).unwrap_or(0);
         match self.below(16) {
             0 => self.roll(),
             1 => seam.wrapping_add(1),
@@ -69,7 +74,7 @@ impl Dice {
     }
 
     // Two addresses, the second seldom below the first.
-    pub fn range(&mut self) -> (u64, u64) {
+    pub fn stretch(&mut self) -> Stretch {
         let one = self.address();
         let two = if self.once_in(3) {
             one.wrapping_add(self.below(0x300))
@@ -77,9 +82,18 @@ impl Dice {
             self.address()
         };
         if one <= two || self.once_in(20) {
-            (one, two)
+            Stretch { lo: one, hi: two }
         } else {
-            (two, one)
+            Stretch { lo: two, hi: one }
+        }
+    }
+
+    // Mostly room for every list, at times for a few names only.
+    pub fn room(&mut self) -> usize {
+        if self.once_in(4) {
+            usize::from(self.byte(4))
+        } else {
+            64
         }
     }
 }

@@ -1,6 +1,7 @@
 #![tactic(auto)]
 
 // Runs both implementations on the same cases, and tells for each family whether they differ.
+mod bench;
 mod build;
 mod calls;
 mod dice;
@@ -13,67 +14,41 @@ mod textcases;
 mod towers;
 mod worked;
 
-use dice::Dice;
+use bench::Bench;
 use linecases::lines;
 use netcases::{chains, edits, full_tables, plugs, rings, twins};
 use plain::words::No;
 use std::io;
-use tally::Tally;
 use textcases::texts;
 use towers::towers;
 use worked::worked;
 
-#[derive(Clone, Copy)]
-enum Family {
-    Worked,
-    Edits,
-    Rings,
-    Chains,
-    FullTables,
-    Twins,
-    Plugs,
-    Towers,
-    Lines,
-    Texts,
-}
-
-const FAMILIES: [(&'static str, Family); 10] = [
-    ("the worked board", Family::Worked),
-    ("edits of nets", Family::Edits),
-    ("rings", Family::Rings),
-    ("deep chains", Family::Chains),
-    ("full tables", Family::FullTables),
-    ("twins compared", Family::Twins),
-    ("plugged banks", Family::Plugs),
-    ("stacks of all layers", Family::Towers),
-    ("lines of text", Family::Lines),
-    ("nets as texts", Family::Texts),
-];
-
-fn play(family: Family, t: &mut Tally, dice: &mut Dice) -> Result<(), No> {
-    match family {
-        Family::Worked => worked(t),
-        Family::Edits => edits(t, dice, 1000),
-        Family::Rings => rings(t, dice, 400),
-        Family::Chains => chains(t, dice, 300),
-        Family::FullTables => full_tables(t, dice, 6),
-        Family::Twins => twins(t, dice, 500),
-        Family::Plugs => plugs(t, dice, 300),
-        Family::Towers => towers(t, dice, 1000),
-        Family::Lines => lines(t, dice, 5000),
-        Family::Texts => texts(t, dice, 1000),
+// Plays one family, and prints its line.
+fn family<F: FnOnce(&mut Bench) -> Result<(), No>>(
+    rt: &HostRuntime,
+    name: &str,
+    play: F,
+) -> io::Result<()>
+    requires { F.IsAlwaysCallable play }
+{
+    let mut bench = Bench::new(rt.alloc());
+    let outcome = play(&mut bench);
+    bench.tally.print(rt, name)?;
+    if let Err(no) = outcome {
+        println!(rt; "{name}: stopped by {no:?}")?;
     }
+    Ok(())
 }
 
 fn main(rt: HostRuntime) -> io::Result<()> {
-    for (name, family) in FAMILIES {
-        let mut t = Tally::new(rt.alloc());
-        let mut dice = Dice::new(0x5eed);
-        let outcome = play(family, &mut t, &mut dice);
-        t.print(&rt, name)?;
-        if let Err(no) = outcome {
-            println!(rt; "{name}: stopped by {no:?}")?;
-        }
-    }
-    Ok(())
+    family(&rt, "the worked board", |bench| worked(bench))?;
+    family(&rt, "edits of nets", |bench| edits(bench, 1000))?;
+    family(&rt, "rings", |bench| rings(bench, 400))?;
+    family(&rt, "deep chains", |bench| chains(bench, 300))?;
+    family(&rt, "full tables", |bench| full_tables(bench, 6))?;
+    family(&rt, "twins compared", |bench| twins(bench, 500))?;
+    family(&rt, "plugged banks", |bench| plugs(bench, 300))?;
+    family(&rt, "stacks of all layers", |bench| towers(bench, 1000))?;
+    family(&rt, "lines of text", |bench| lines(bench, 5000))?;
+    family(&rt, "nets as texts", |bench| texts(bench, 1000))
 }

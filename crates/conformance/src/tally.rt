@@ -6,7 +6,7 @@ use std::io;
 
 #[derive(Drop)]
 pub struct Tally {
-    pub heap: Global,
+    heap: Global,
     cases: u64,
     calls: u64,
     granted: u64,
@@ -16,10 +16,11 @@ pub struct Tally {
     difference: Option<String>,
 }
 
-fn number(no: &No) -> u8 {
+// The number under which the documents list a refusal, by which it is counted and printed; 0 is want of memory.
+pub fn number(no: &No) -> u8 {
     match *no {
-        No::Refused(number) | No::AtRecord(number, _) => number,
-        No::Overfull(..) => 8,
+        No::Refused(why) | No::AtRecord(why, _) => why as u8,
+        No::Overfull(_) => 8,
         No::Memory => 0,
     }
 }

@@ -1,87 +1,66 @@
 // Families of whole stacks: every layer over every other, over each bottom.
-use crate::build::{net_over, renaming_over, window_over};
+use crate::bench::{Bench, Both};
+use crate::build::{any_bank, net_over, over_bank, renaming_over, stack_of, window_over};
 use crate::calls::call_compare;
 use crate::dice::Dice;
-use crate::examine::{flatten_around, look_around, resolve_around, room};
-use crate::same;
-use crate::same::answer;
-use crate::tally::Tally;
+use crate::examine::{flatten_around, look_around, resolve_around};
+use crate::same::{all_told, answer};
 use model::records::Record;
-use plain::stack::{Layer, Stack, fill};
+use plain::stack::{Layer, fill};
 use plain::words;
-use plain::words::No;
+use plain::words::{No, Stretch};
 use space::Space;
-use space::bank::Bank;
 use space::flat::FlatTable;
 use space::socket::Socket;
 use std::alloc::AllocError;
 
 // What is done with a stack once it stands.
-fn examine<S: Space>(t: &mut Tally, dice: &mut Dice, first: &S, stack: &Stack) -> Result<(), No> {
-    look_around(t, dice, first, stack, 40)?;
-    call_compare(t, (first, first), (stack, stack), (room(dice), room(dice)))?;
-    flatten_around(t, dice, first, stack)
+fn examine<S: Space>(bench: &mut Bench, both: &Both<S>) -> Result<(), No> {
+    look_around(bench, both, 40)?;
+    let rooms = (bench.dice.room(), bench.dice.room());
+    call_compare(bench, both, both, rooms)?;
+    flatten_around(bench, both)
 }
 
 // A net over a window over a renaming.
-fn net_on_top<B: Space + Drop>(
-    t: &mut Tally,
-    dice: &mut Dice,
-    bottom: B,
-    mut stack: Stack,
-) -> Result<(), No> {
-    let renaming = renaming_over(t, dice, bottom, &mut stack, 6)?;
-    let window = window_over(t, dice, renaming, &mut stack)?;
-    let net = net_over(t, dice, window, &mut stack, 10)?;
-    resolve_around(t, dice, &net, &stack, 8)?;
-    examine(t, dice, &net, &stack)
+fn net_on_top<B: Space + Drop>(bench: &mut Bench, bottom: Both<B>) -> Result<(), No> {
+    let renaming = renaming_over(bench, bottom, 6)?;
+    let window = window_over(bench, renaming)?;
+    let net = net_over(bench, window, 10)?;
+    resolve_around(bench, &net, 8)?;
+    examine(bench, &net)
 }
 
 // A window over a net over a renaming over a net.
-fn window_on_top<B: Space + Drop>(
-    t: &mut Tally,
-    dice: &mut Dice,
-    bottom: B,
-    mut stack: Stack,
-) -> Result<(), No> {
-    let low = net_over(t, dice, bottom, &mut stack, 6)?;
-    let renaming = renaming_over(t, dice, low, &mut stack, 70)?;
-    let net = net_over(t, dice, renaming, &mut stack, 6)?;
-    let window = window_over(t, dice, net, &mut stack)?;
-    examine(t, dice, &window, &stack)
+fn window_on_top<B: Space + Drop>(bench: &mut Bench, bottom: Both<B>) -> Result<(), No> {
+    let low = net_over(bench, bottom, 6)?;
+    let renaming = renaming_over(bench, low, 70)?;
+    let net = net_over(bench, renaming, 6)?;
+    let window = window_over(bench, net)?;
+    examine(bench, &window)
 }
 
 // A renaming over a renaming over a net over a window.
-fn renaming_on_top<B: Space + Drop>(
-    t: &mut Tally,
-    dice: &mut Dice,
-    bottom: B,
-    mut stack: Stack,
-) -> Result<(), No> {
-    let window = window_over(t, dice, bottom, &mut stack)?;
-    let net = net_over(t, dice, window, &mut stack, 10)?;
-    let low = renaming_over(t, dice, net, &mut stack, 8)?;
-    let high = renaming_over(t, dice, low, &mut stack, 8)?;
-    examine(t, dice, &high, &stack)
+fn renaming_on_top<B: Space + Drop>(bench: &mut Bench, bottom: Both<B>) -> Result<(), No> {
+    let window = window_over(bench, bottom)?;
+    let net = net_over(bench, window, 10)?;
+    let low = renaming_over(bench, net, 8)?;
+    let high = renaming_over(bench, low, 8)?;
+    examine(bench, &high)
 }
 
-// One of the three stacks.
-fn tower<B: Space + Drop>(
-    t: &mut Tally,
-    dice: &mut Dice,
-    bottom: B,
-    stack: Stack,
-) -> Result<(), No> {
-    match dice.below(3) {
-        0 => net_on_top(t, dice, bottom, stack),
-        1 => window_on_top(t, dice, bottom, stack),
-        _ => renaming_on_top(t, dice, bottom, stack),
+// One of the three stacks. The dice choose, here and in the other families, so no caller could hand the step in.
+fn tower<B: Space + Drop>(bench: &mut Bench, bottom: Both<B>) -> Result<(), No> {
+    match bench.dice.below(3) {
+        0 => net_on_top(bench, bottom),
+        1 => window_on_top(bench, bottom),
+        _ => renaming_on_top(bench, bottom),
     }
 }
 
 // A record, seldom one that no table takes.
 fn row(dice: &mut Dice) -> Record {
-    let (lo, hi) = dice.range();
+    let Stretch { lo, hi } = dice.stretch();
     let base = if dice.once_in(8) {
         dice.address()
     } else {
@@ -97,73 +76,61 @@ fn row(dice: &mut Dice) -> Record {
 
 // Fills both tables, and compares the answers.
 fn call_fill<'a>(
-    t: &mut Tally,
+    bench: &mut Bench,
     flat: &mut FlatTable<'a>,
     rows: &mut Vec<words::Record>,
     records: &'a [Record],
 ) -> Result<(), AllocError> {
-    let told = same::records(t.heap, records)?;
+    let told = all_told(bench.heap, records)?;
     let one = answer(flat.fill(records));
-    let two = fill(t.heap, rows, told.as_slice());
-    t.answer(&told, &one, &two)
+    let two = fill(bench.heap, rows, told.as_slice());
+    bench.tally.answer(&told, &one, &two)
 }
 
 // A tower over a flat table that was filled twice.
-fn over_rows<'a>(
-    t: &mut Tally,
-    dice: &mut Dice,
-    older: &'a [Record],
-    newer: &'a [Record],
-) -> Result<(), No> {
+fn over_rows<'a>(bench: &mut Bench, older: &'a [Record], newer: &'a [Record]) -> Result<(), No> {
     let mut flat = FlatTable::new();
-    let mut rows = Vec::new(t.heap);
-    call_fill(t, &mut flat, &mut rows, older)?;
-    call_fill(t, &mut flat, &mut rows, newer)?;
-    let mut stack = Stack::new(t.heap);
-    stack.lay(Layer::Flat(rows))?;
-    tower(t, dice, flat, stack)
+    let mut rows = Vec::new(bench.heap);
+    call_fill(bench, &mut flat, &mut rows, older)?;
+    call_fill(bench, &mut flat, &mut rows, newer)?;
+    let bottom = Both {
+        first: flat,
+        second: stack_of(bench.heap, Layer::Flat(rows))?,
+    };
+    tower(bench, bottom)
 }
 
-fn over_table(t: &mut Tally, dice: &mut Dice) -> Result<(), No> {
-    let mut older = Vec::new(t.heap);
-    let mut newer = Vec::new(t.heap);
-    for _ in 0..dice.below(5) {
-        older.push(row(dice))?;
-        newer.push(row(dice))?;
+fn tower_over_table(bench: &mut Bench) -> Result<(), No> {
+    let mut older = Vec::new(bench.heap);
+    let mut newer = Vec::new(bench.heap);
+    for _ in 0..bench.dice.below(5) {
+        older.push(row(&mut bench.dice))?;
+        newer.push(row(&mut bench.dice))?;
     }
-    over_rows(t, dice, older.as_slice(), newer.as_slice())
+    over_rows(bench, older.as_slice(), newer.as_slice())
 }
 
-fn bank(dice: &mut Dice) -> Bank {
-    Bank {
-        component: u32::from(dice.byte(20)),
-        size: dice.address(),
-    }
+fn tower_over_bank(bench: &mut Bench) -> Result<(), No> {
+    let bank = any_bank(&mut bench.dice);
+    let bottom = over_bank(bench.heap, bank)?;
+    tower(bench, bottom)
 }
 
-fn over_bank(t: &mut Tally, dice: &mut Dice) -> Result<(), No> {
-    let bottom = bank(dice);
-    let mut stack = Stack::new(t.heap);
-    stack.lay(Layer::Bank {
-        component: bottom.component,
-        size: bottom.size,
-    })?;
-    tower(t, dice, bottom, stack)
+fn tower_over_socket(bench: &mut Bench) -> Result<(), No> {
+    let bottom = Both {
+        first: Socket,
+        second: stack_of(bench.heap, Layer::Socket)?,
+    };
+    tower(bench, bottom)
 }
 
-fn over_socket(t: &mut Tally, dice: &mut Dice) -> Result<(), No> {
-    let mut stack = Stack::new(t.heap);
-    stack.lay(Layer::Socket)?;
-    tower(t, dice, Socket, stack)
-}
-
-pub fn towers(t: &mut Tally, dice: &mut Dice, cases: u64) -> Result<(), No> {
+pub fn towers(bench: &mut Bench, cases: u64) -> Result<(), No> {
     for _ in 0..cases {
-        t.case();
-        match dice.below(5) {
-            0 => over_socket(t, dice)?,
-            1 | 2 => over_bank(t, dice)?,
-            _ => over_table(t, dice)?,
+        bench.tally.case();
+        match bench.dice.below(5) {
+            0 => tower_over_socket(bench)?,
+            1 | 2 => tower_over_bank(bench)?,
+            _ => tower_over_table(bench)?,
         }
     }
     Ok(())

@@ -1,141 +1,133 @@
 // The worked board: what it answers is stated here, and was computed by neither implementation.
-use crate::calls::{call_compare, call_edit, call_flatten, call_look};
-use crate::tally::Tally;
+use crate::bench::{Bench, Both};
+use crate::build::{map_edit, net_with, over_bank};
+use crate::calls::{call_compare, call_flatten, call_look};
+use crate::same::Told;
+use crate::tally::number;
+use model::faults::Fault;
 use nets::net::Net;
-use plain::net;
 use plain::net::Edit;
-use plain::runs::Compared;
-use plain::stack::{Layer, Stack};
-use plain::words::{Accept, Map, Name, No, Record, Stretch};
+use plain::words::{Accept, Name, No, Record, Stretch, Why};
 use space::bank::Bank;
-
-const EDITS: [Edit; 5] = [
-    Edit::Over(0, 1),
-    Edit::Accept(Accept {
-        node: 1,
-        at: Stretch {
-            lo: 0x8000,
-            hi: 0x8fff,
-        },
-    }),
-    Edit::Map(Map {
-        node: 0,
-        at: Stretch {
-            lo: 0x4000,
-            hi: 0x4fff,
-        },
-        to: 2,
-        base: 0,
-    }),
-    Edit::Map(Map {
-        node: 2,
-        at: Stretch { lo: 0, hi: 0xfff },
-        to: 32,
-        base: 0,
-    }),
-    Edit::Map(Map {
-        node: 2,
-        at: Stretch { lo: 0, hi: 0xff },
-        to: 1,
-        base: 0x8000,
-    }),
-];
 
 const fn at(component: u32, address: u64) -> Name {
     Name { component, address }
 }
 
-const ROW: Record = Record {
-    at: Stretch { lo: 0, hi: 0 },
-    component: 0,
-    base: 0,
-};
-
 // The board in both implementations.
-#[derive(Drop)]
-struct Board {
-    first: Net<Bank>,
-    second: Stack,
-}
+type Board = Both<Net<Bank>>;
 
-fn made(t: &mut Tally, size: u64) -> Result<Board, No> {
-    let mut first = Net::new(
-        2,
-        Bank {
-            component: 900,
-            size,
-        },
-    );
-    let mut net = net::Net::new(t.heap, 2);
-    for edit in EDITS {
-        call_edit(t, &mut first, &mut net, edit)?;
-    }
-    let mut second = Stack::new(t.heap);
-    second.lay(Layer::Bank {
+fn made(bench: &mut Bench, size: u64) -> Result<Board, No> {
+    let bank = Bank {
         component: 900,
         size,
-    })?;
-    second.lay(Layer::Net(net))?;
-    Ok(Board { first, second })
+    };
+    let page = Stretch {
+        lo: 0x8000,
+        hi: 0x8fff,
+    };
+    let edits = [
+        Edit::Over(0, 1),
+        Edit::Accept(Accept { node: 1, at: page }),
+        map_edit(0, 0x4000, 0x4fff, 2, 0),
+        map_edit(2, 0, 0xfff, 32, 0),
+        map_edit(2, 0, 0xff, 1, 0x8000),
+    ];
+    let below = over_bank(bench.heap, bank)?;
+    Ok(net_with(bench, below, 2, &edits)?)
 }
 
 // The list at an address, by both implementations, is the stated one.
-fn look_is(t: &mut Tally, board: &Board, a: u64, stated: &[Name]) -> Result<(), No> {
-    call_look(t, &board.first, &board.second, a, 64)?;
-    let list = board.second.list(t.heap, a)?;
-    t.same(&a, &list.names, &stated.to_vec(t.heap)?)?;
+fn look_is(bench: &mut Bench, board: &Board, a: u64, stated: &[Name]) -> Result<(), No> {
+    call_look(bench, board, a, 64)?;
+    let list = board.second.list(bench.heap, a)?;
+    let stated = stated.to_vec(bench.heap)?;
+    bench.tally.same(&a, &list.names, &stated)?;
     Ok(())
 }
 
 // So is the answer of a flattening.
 fn flatten_is(
-    t: &mut Tally,
+    bench: &mut Bench,
     board: &Board,
     room: usize,
     many: usize,
     stated: Result<usize, No>,
 ) -> Result<(), No> {
-    let _ = call_flatten(t, &board.first, &board.second, room, many)?;
-    let mut scratch = vec![in t.heap; at(0, 0); room]?;
-    let mut table = vec![in t.heap; ROW; many]?;
+    let _ = call_flatten(bench, board, room, many)?;
+    let mut scratch = vec![in bench.heap; Name::default(); room]?;
+    let mut table = vec![in bench.heap; Record::default(); many]?;
     let found = board
         .second
-        .flatten(t.heap, table.as_mut_slice(), scratch.as_mut_slice());
-    t.same(&(room, many), &found, &stated)?;
+        .flatten(bench.heap, table.as_mut_slice(), scratch.as_mut_slice());
+    bench.tally.same(&(room, many), &found, &stated)?;
     Ok(())
 }
 
 // So is the answer of a comparing.
-fn compare_is(t: &mut Tally, left: &Board, right: &Board, stated: Compared) -> Result<(), No> {
-    call_compare(
-        t,
-        (&left.first, &right.first),
-        (&left.second, &right.second),
-        (64, 64),
-    )?;
-    let mut one = vec![in t.heap; at(0, 0); 2]?;
-    let mut two = vec![in t.heap; at(0, 0); 2]?;
+fn compare_is(
+    bench: &mut Bench,
+    left: &Board,
+    right: &Board,
+    stated: Option<u64>,
+) -> Result<(), No> {
+    call_compare(bench, left, right, (64, 64))?;
+    let mut one = vec![in bench.heap; Name::default(); 2]?;
+    let mut two = vec![in bench.heap; Name::default(); 2]?;
     let found = left.second.compare(
-        t.heap,
+        bench.heap,
         &right.second,
         one.as_mut_slice(),
         two.as_mut_slice(),
     );
-    t.same(&"compare", &found, &Ok(stated))?;
+    bench.tally.same(&"compare", &found, &Ok(stated))?;
     Ok(())
 }
 
-pub fn worked(t: &mut Tally) -> Result<(), No> {
-    t.case();
-    let whole = made(t, 0x1000)?;
-    let short = made(t, 0xfff)?;
-    look_is(t, &whole, 0x8010, &[at(65, 0x8010)])?;
-    look_is(t, &whole, 0x4010, &[at(900, 0x10), at(65, 0x8010)])?;
-    look_is(t, &whole, 0x4100, &[at(900, 0x100)])?;
-    look_is(t, &whole, 0x5000, &[])?;
-    flatten_is(t, &whole, 2, 4, Ok(4))?;
-    flatten_is(t, &whole, 2, 3, Err(No::Refused(9)))?;
-    flatten_is(t, &whole, 1, 4, Err(No::Refused(10)))?;
-    compare_is(t, &whole, &whole, Compared::Equal)?;
-    compare_is(t, &whole, &short, Compared::DifferAt(0x4fff))
+const FAULTS: [Fault; 17] = [
+    Fault::NodeOutOfRange,
+    Fault::DestinationOutOfRange,
+    Fault::RangeReversed,
+    Fault::TargetPastTop,
+    Fault::AlreadyThere,
+    Fault::NotThere,
+    Fault::TableFull,
+    Fault::WalkTooLong {
+        node: 0,
+        address: 0,
+    },
+    Fault::BufferShort,
+    Fault::ScratchShort,
+    Fault::SecondScratchShort,
+    Fault::NotADigit,
+    Fault::OddDigits,
+    Fault::KindUnknown,
+    Fault::LengthWrong,
+    Fault::RecordReversed { place: 0 },
+    Fault::RecordPastTop { place: 0 },
+];
+
+// Both implementations give every refusal the same number.
+fn numbers_are_the_same(bench: &mut Bench) -> Result<(), No> {
+    for fault in FAULTS {
+        let told = number(&fault.told());
+        bench.tally.same(&fault, &fault.number(), &told)?;
+    }
+    Ok(())
+}
+
+pub fn worked(bench: &mut Bench) -> Result<(), No> {
+    bench.tally.case();
+    numbers_are_the_same(bench)?;
+    let whole = made(bench, 0x1000)?;
+    let short = made(bench, 0xfff)?;
+    look_is(bench, &whole, 0x8010, &[at(65, 0x8010)])?;
+    look_is(bench, &whole, 0x4010, &[at(900, 0x10), at(65, 0x8010)])?;
+    look_is(bench, &whole, 0x4100, &[at(900, 0x100)])?;
+    look_is(bench, &whole, 0x5000, &[])?;
+    flatten_is(bench, &whole, 2, 4, Ok(4))?;
+    flatten_is(bench, &whole, 2, 3, Err(No::Refused(Why::BufferShort)))?;
+    flatten_is(bench, &whole, 1, 4, Err(No::Refused(Why::ScratchShort)))?;
+    compare_is(bench, &whole, &whole, None)?;
+    compare_is(bench, &whole, &short, Some(0x4fff))
 }

@@ -1,24 +1,19 @@
 // Question 8: how many names the walks of a net meet, found for all its 32 × 2^64 names together.
 // A round counts every name's steps by what the round before counted for these.
 use crate::net::{MOST, NODES, Net};
-use crate::words::Stretch;
+use crate::words::{Shift, Spot, Stretch};
 use std::alloc::{AllocError, Global};
-use std::collections::BTreeSet;
+use std::collections::{BTreeMap, BTreeSet};
 
-// A node's count of names met, 65 for any above 64, with the address from which it holds; addresses rise from 0.
-type Counts = Vec<(u64, u8)>;
+// A node's count of names met, by the address from which it holds. Any count above 64 is 65, so that counts are added and compared as numbers.
+type Counts = BTreeMap<u64, u8>;
 
 // The count that holds at an address of a node; an arrival in the space below is one name.
-fn count_at(counts: &[Counts], node: u8, a: u64) -> u8 {
-    let mut met = 1;
-    if let Some(stretches) = counts.get(usize::from(node)) {
-        for (from, count) in stretches.iter() {
-            if *from <= a {
-                met = *count;
-            }
-        }
-    }
-    met
+fn count_at(counts: &[Counts], spot: Spot) -> u8 {
+    counts
+        .get(usize::from(spot.node))
+        .and_then(|own| own.range(..=spot.address).next_back())
+        .map_or(1, |(_, count)| *count)
 }
 
 // Adds a stretch's first address, and the one behind its end.
@@ -32,15 +27,23 @@ pub fn mark(seams: &mut BTreeSet<u64>, at: &Stretch) -> Result<(), AllocError> {
 
 impl Net {
     // The name itself with what its steps met by the counts so far.
-    fn met(&self, heap: Global, counts: &[Counts], node: u8, a: u64) -> Result<u8, AllocError> {
-        let mut met: u8 = 1;
-        let steps = self.steps(heap, node, a)?;
-        for (to, there) in steps.iter() {
-            met = met
-                .saturating_add(count_at(counts, *to, *there))
-                .min(MOST + 1);
+    fn met(&self, heap: Global, counts: &[Counts], spot: Spot) -> Result<u8, AllocError> {
+        let steps = self.steps(heap, spot)?;
+        Ok(
+            steps.iter().fold(1u8, |met, step| {
+                met.saturating_add(count_at(counts, *step)).min(MOST + 1)
+            }),
+        )
+    }
+
+    // The ends of a node's own blocks.
+    pub(crate) fn ends(&self, heap: Global, node: u8) -> Result<BTreeSet<u64>, AllocError> {
+        let mut seams = BTreeSet::new(heap);
+        let stretches = self.stretches(heap, node)?;
+        for at in stretches.iter() {
+            mark(&mut seams, at)?;
         }
-        Ok(met)
+        Ok(seams)
     }
 
     // Every address of a node at which its next count may change.
@@ -50,34 +53,26 @@ impl Net {
         counts: &[Counts],
         node: u8,
     ) -> Result<BTreeSet<u64>, AllocError> {
-        let mut seams = BTreeSet::new(heap);
+        let mut seams = self.ends(heap, node)?;
         seams.insert(0)?;
-        for block in self.accepts.iter() {
-            if block.node == node {
-                mark(&mut seams, &block.at)?;
-            }
-        }
-        for block in self.maps.iter() {
-            if block.node == node {
-                mark(&mut seams, &block.at)?;
-                fetch(&mut seams, counts, block.to, &block.at, block.base)?;
-            }
+        for block in self.maps.iter().filter(|block| block.node == node) {
+            fetch(&mut seams, counts, block.to, &block.shift)?;
         }
         if let Some(to) = self.overlays.get(&node) {
-            fetch(&mut seams, counts, *to, &EVERYWHERE, 0)?;
+            fetch(&mut seams, counts, *to, &EVERYWHERE)?;
         }
         Ok(seams)
     }
 
     // A node's next counts.
     fn recount(&self, heap: Global, counts: &[Counts], node: u8) -> Result<Counts, AllocError> {
-        let mut next: Counts = Vec::new(heap);
+        let mut next: Counts = BTreeMap::new(heap);
         let mut last = 0;
         let seams = self.changes(heap, counts, node)?;
         for a in seams.iter() {
-            let met = self.met(heap, counts, node, *a)?;
+            let met = self.met(heap, counts, Spot { node, address: *a })?;
             if met != last {
-                next.push((*a, met))?;
+                next.insert(*a, met)?;
                 last = met;
             }
         }
@@ -85,15 +80,13 @@ impl Net {
     }
 
     fn round(&self, heap: Global, counts: &[Counts]) -> Result<Vec<Counts>, AllocError> {
-        let mut next = Vec::new(heap);
-        for node in 0..NODES {
-            next.push(self.recount(heap, counts, node)?)?;
-        }
-        Ok(next)
+        (0..NODES)
+            .map(|node| self.recount(heap, counts, node))
+            .try_collect(heap)
     }
 
     // The first name, by node, then address, whose walk meets more than 64 names.
-    pub fn first_overfull(&self, heap: Global) -> Result<Option<(u8, u64)>, AllocError> {
+    pub fn first_overfull(&self, heap: Global) -> Result<Option<Spot>, AllocError> {
         let mut counts = Vec::new(heap);
         for _ in 0..MOST {
             let next = self.round(heap, counts.as_slice())?;
@@ -102,43 +95,39 @@ impl Net {
             }
             counts = next;
         }
-        for node in 0..NODES {
-            if let Some(a) = first_above(counts.as_slice(), node) {
-                return Ok(Some((node, a)));
-            }
-        }
-        Ok(None)
+        Ok((0..NODES).find_map(|node| first_above(counts.as_slice(), node)))
     }
 }
 
-const EVERYWHERE: Stretch = Stretch {
-    lo: 0,
-    hi: u64::MAX,
+// What an overlay carries: every address to itself.
+pub(crate) const EVERYWHERE: Shift = Shift {
+    at: Stretch {
+        lo: 0,
+        hi: u64::MAX,
+    },
+    base: 0,
 };
 
-// Adds the addresses of a stretch that is carried to base at a node, at which that node's count changes.
+// Adds the addresses that are carried to a node at which that node's count changes.
 fn fetch(
     seams: &mut BTreeSet<u64>,
     counts: &[Counts],
     node: u8,
-    at: &Stretch,
-    base: u64,
+    shift: &Shift,
 ) -> Result<(), AllocError> {
-    if let Some(stretches) = counts.get(usize::from(node)) {
-        for (from, _) in stretches.iter() {
-            if let Some(a) = at.fetched(base, *from) {
-                seams.insert(a)?;
-            }
-        }
+    match counts.get(usize::from(node)) {
+        Some(there) => seams.extend(there.keys().filter_map(|from| shift.fetched(*from))),
+        None => Ok(()),
     }
-    Ok(())
 }
 
-fn first_above(counts: &[Counts], node: u8) -> Option<u64> {
-    for (from, count) in counts.get(usize::from(node))?.iter() {
-        if *count > MOST {
-            return Some(*from);
-        }
-    }
-    None
+fn first_above(counts: &[Counts], node: u8) -> Option<Spot> {
+    counts
+        .get(usize::from(node))?
+        .iter()
+        .find(|(_, count)| **count > MOST)
+        .map(|(from, _)| Spot {
+            node,
+            address: *from,
+        })
 }

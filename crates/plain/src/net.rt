@@ -1,13 +1,15 @@
 // A net: its blocks, its edits, and the walk from a name.
 ghost use Rattle.std.specs.Prelude.{◌≡◌, OnErr};
 
-use crate::words::{Accept, Map, Name, No, ask};
+use crate::lines::Kind;
+use crate::words::{Accept, Map, Name, No, Spot, Stretch, Why, ask};
 use std::alloc::{AllocError, Global};
 use std::collections::BTreeMap;
+use std::fmt;
 
 pub const NODES: u8 = 32;
 
-// The destination that is the space below.
+// The destination that is the space below. Any byte may be given as a node or a destination: that is what questions 1 and 2 are for.
 pub const BELOW: u8 = 32;
 
 // The most names that a walk may meet.
@@ -31,6 +33,39 @@ pub enum Edit {
     DropMap(Map),
     Over(u8, u8),
     Enter(u8),
+}
+
+fn write_accept<W: fmt::Write>(
+    f: &mut fmt::Formatter<W>,
+    kind: Kind,
+    block: &Accept,
+) -> fmt::Result {
+    let Accept { node, at } = *block;
+    write!(
+        f,
+        "{:02x}{node:02x}{:016x}{:016x}",
+        kind as u8, at.lo, at.hi
+    )
+}
+
+fn write_map<W: fmt::Write>(f: &mut fmt::Formatter<W>, kind: Kind, block: &Map) -> fmt::Result {
+    let Map { node, shift, to } = *block;
+    write_accept(f, kind, &Accept { node, at: shift.at })?;
+    write!(f, "{to:02x}{:016x}", shift.base)
+}
+
+// The line that says the edit.
+impl fmt::Display for Edit {
+    fn fmt<W: fmt::Write>(&self, f: &mut fmt::Formatter<W>) -> fmt::Result {
+        match self {
+            Edit::Accept(block) => write_accept(f, Kind::Accept, block),
+            Edit::Map(block) => write_map(f, Kind::Map, block),
+            Edit::DropAccept(block) => write_accept(f, Kind::DropAccept, block),
+            Edit::DropMap(block) => write_map(f, Kind::DropMap, block),
+            Edit::Over(node, to) => write!(f, "{:02x}{node:02x}{to:02x}", Kind::Over as u8),
+            Edit::Enter(node) => write!(f, "{:02x}{node:02x}", Kind::Enter as u8),
+        }
+    }
 }
 
 // A name that is accepted, or an address that arrives in the space below.
@@ -66,17 +101,33 @@ impl Way {
     }
 }
 
-// The items but for those that equal x.
-fn without<T: Copy + PartialEq>(heap: Global, items: &[T], x: &T) -> Result<Vec<T>, AllocError> {
-    let mut kept = Vec::new(heap);
-    for item in items {
-        if *item != *x {
-            kept.push(*item)?;
-        }
+impl Accept {
+    // Questions 1 and 3.
+    fn ask(&self) -> Result<(), Why> {
+        ask(self.node < NODES, Why::NodeOutOfRange)?;
+        self.at.ask_range()
     }
-    Ok(kept)
 }
 
+impl Map {
+    // Questions 1 to 4.
+    fn ask(&self) -> Result<(), Why> {
+        ask(self.node < NODES, Why::NodeOutOfRange)?;
+        ask(self.to <= BELOW, Why::DestinationOutOfRange)?;
+        self.shift.ask_target()
+    }
+
+    // Where it leads from a spot, if it is a block of that node and covers the address.
+    fn step(&self, from: Spot) -> Option<Spot> {
+        let address = self.shift.carried(from.address)?;
+        (self.node == from.node).then_some(Spot {
+            node: self.to,
+            address,
+        })
+    }
+}
+
+// Each edit says for itself that a refusal changes nothing: no type can say what a call leaves.
 impl Net {
     pub fn new(heap: Global, group: u16) -> Net {
         let accepts = Vec::new(heap);
@@ -103,13 +154,13 @@ impl Net {
         }
     }
 
+    // Blocks of the two kinds have functions of their own: the questions, the tables and the limits differ, and one function would be handed all three.
     pub fn accept(&mut self, block: Accept) -> Result<(), No>
         ensures { OnErr result (self.new ≡ self.old) }
     {
-        ask(block.node < NODES, 1)?;
-        ask(block.at.lo <= block.at.hi, 3)?;
-        ask(!self.accepts.contains(&block), 5)?;
-        ask(self.accepts.len() < 64, 7)?;
+        block.ask()?;
+        ask(!self.accepts.contains(&block), Why::AlreadyThere)?;
+        ask(self.accepts.len() < 64, Why::TableFull)?;
         let mut next = self.clone()?;
         next.accepts.push(block)?;
         *self = next;
@@ -119,11 +170,9 @@ impl Net {
     pub fn map(&mut self, heap: Global, block: Map) -> Result<(), No>
         ensures { OnErr result (self.new ≡ self.old) }
     {
-        ask(block.node < NODES, 1)?;
-        ask(block.to <= BELOW, 2)?;
-        block.at.ask_target(block.base)?;
-        ask(!self.maps.contains(&block), 5)?;
-        ask(self.maps.len() < 128, 7)?;
+        block.ask()?;
+        ask(!self.maps.contains(&block), Why::AlreadyThere)?;
+        ask(self.maps.len() < 128, Why::TableFull)?;
         let mut next = self.clone()?;
         next.maps.push(block)?;
         self.settle(heap, next)
@@ -132,23 +181,20 @@ impl Net {
     pub fn drop_accept(&mut self, heap: Global, block: Accept) -> Result<(), No>
         ensures { OnErr result (self.new ≡ self.old) }
     {
-        ask(block.node < NODES, 1)?;
-        ask(block.at.lo <= block.at.hi, 3)?;
-        ask(self.accepts.contains(&block), 6)?;
+        block.ask()?;
+        ask(self.accepts.contains(&block), Why::NotThere)?;
         let mut next = self.clone()?;
-        next.accepts = without(heap, self.accepts.as_slice(), &block)?;
+        next.accepts.retain(|kept| *kept != block);
         self.settle(heap, next)
     }
 
     pub fn drop_map(&mut self, heap: Global, block: Map) -> Result<(), No>
         ensures { OnErr result (self.new ≡ self.old) }
     {
-        ask(block.node < NODES, 1)?;
-        ask(block.to <= BELOW, 2)?;
-        block.at.ask_target(block.base)?;
-        ask(self.maps.contains(&block), 6)?;
+        block.ask()?;
+        ask(self.maps.contains(&block), Why::NotThere)?;
         let mut next = self.clone()?;
-        next.maps = without(heap, self.maps.as_slice(), &block)?;
+        next.maps.retain(|kept| *kept != block);
         self.settle(heap, next)
     }
 
@@ -156,8 +202,8 @@ impl Net {
     pub fn over(&mut self, heap: Global, node: u8, to: u8) -> Result<(), No>
         ensures { OnErr result (self.new ≡ self.old) }
     {
-        ask(node < NODES, 1)?;
-        ask(to <= BELOW + 1, 2)?;
+        ask(node < NODES, Why::NodeOutOfRange)?;
+        ask(to <= BELOW + 1, Why::DestinationOutOfRange)?;
         let mut next = self.clone()?;
         let _ = next.overlays.remove(&node);
         if to <= BELOW {
@@ -169,7 +215,7 @@ impl Net {
     pub fn enter(&mut self, node: u8) -> Result<(), No>
         ensures { OnErr result (self.new ≡ self.old) }
     {
-        ask(node < NODES, 1)?;
+        ask(node < NODES, Why::NodeOutOfRange)?;
         self.entry = node;
         Ok(())
     }
@@ -178,37 +224,30 @@ impl Net {
     fn settle(&mut self, heap: Global, next: Net) -> Result<(), No>
         ensures { OnErr result (self.new ≡ self.old) }
     {
-        match next.first_overfull(heap)? {
-            Some((node, a)) => Err(No::Overfull(node, a)),
-            None => {
-                *self = next;
-                Ok(())
-            }
+        if let Some(spot) = next.first_overfull(heap)? {
+            return Err(No::Overfull(spot));
         }
+        *self = next;
+        Ok(())
     }
 
-    pub fn accepted(&self, node: u8, a: u64) -> bool {
-        for block in self.accepts.iter() {
-            if block.node == node && block.at.covers(a) {
-                return true;
-            }
-        }
-        false
+    pub fn accepted(&self, spot: Spot) -> bool {
+        self.accepts.iter().any(|block| block.node == spot.node && block.at.covers(spot.address))
     }
 
-    // The steps from an address at a node: destinations with the addresses there.
-    pub fn steps(&self, heap: Global, node: u8, a: u64) -> Result<Vec<(u8, u64)>, AllocError> {
-        let mut steps = Vec::new(heap);
-        for block in self.maps.iter() {
-            if block.node == node {
-                if let Some(there) = block.at.carried(block.base, a) {
-                    steps.push((block.to, there))?;
-                }
-            }
-        }
-        if steps.is_empty() && !self.accepted(node, a) {
-            if let Some(to) = self.overlays.get(&node) {
-                steps.push((*to, a))?;
+    // The steps from an address at a node.
+    pub fn steps(&self, heap: Global, from: Spot) -> Result<Vec<Spot>, AllocError> {
+        let mut steps: Vec<Spot> = self
+            .maps
+            .iter()
+            .filter_map(|block| block.step(from))
+            .collect(heap)?;
+        if steps.is_empty() && !self.accepted(from) {
+            if let Some(to) = self.overlays.get(&from.node) {
+                steps.push(Spot {
+                    node: *to,
+                    address: from.address,
+                })?;
             }
         }
         Ok(steps)
@@ -219,46 +258,49 @@ impl Net {
     }
 
     // The walk from an address at a node, which meets 64 names at most.
-    pub fn walk(&self, heap: Global, node: u8, a: u64) -> Result<Way, AllocError> {
-        let mut way = Way::new(heap, a);
+    pub fn walk(&self, heap: Global, from: Spot) -> Result<Way, AllocError> {
+        let mut way = Way::new(heap, from.address);
         let mut agenda = Vec::new(heap);
-        agenda.push((node, a))?;
+        agenda.push(from)?;
         for _ in 0..MOST {
-            let Some((at, here)) = agenda.pop() else {
+            let Some(here) = agenda.pop() else {
                 break;
             };
-            if at >= NODES {
-                way.note(Note::Arrival(here))?;
+            if here.node >= NODES {
+                way.note(Note::Arrival(here.address))?;
                 continue;
             }
-            if self.accepted(at, here) {
+            if self.accepted(here) {
                 way.note(Note::Own(Name {
-                    component: self.component(at),
-                    address: here,
+                    component: self.component(here.node),
+                    address: here.address,
                 }))?;
             }
-            way.hold(self.ahead(at, here));
-            let steps = self.steps(heap, at, here)?;
-            for step in steps.iter().rev() {
-                agenda.push(*step)?;
-            }
+            way.hold(self.ahead(here));
+            let steps = self.steps(heap, here)?;
+            agenda.extend(steps.iter().rev())?;
         }
         Ok(way)
     }
 
-    // How far above a no block of the node begins or ends to cover.
-    fn ahead(&self, node: u8, a: u64) -> u64 {
-        let mut far = u64::MAX.saturating_sub(a);
-        for block in self.accepts.iter() {
-            if block.node == node {
-                far = far.min(block.at.ahead(a));
-            }
-        }
-        for block in self.maps.iter() {
-            if block.node == node {
-                far = far.min(block.at.ahead(a));
-            }
-        }
-        far
+    // The stretches of a node's own blocks.
+    pub(crate) fn stretches(&self, heap: Global, node: u8) -> Result<Vec<Stretch>, AllocError> {
+        let accepts = self.accepts.iter().map(|block| (block.node, block.at));
+        let maps = self.maps.iter().map(|block| (block.node, block.shift.at));
+        accepts
+            .chain(maps)
+            .filter_map(|(owner, at)| (owner == node).then_some(at))
+            .collect(heap)
+    }
+
+    // How far above the address no block of the node begins or ends to cover.
+    fn ahead(&self, spot: Spot) -> u64 {
+        let top = u64::MAX.saturating_sub(spot.address);
+        let accepts = self.accepts.iter().map(|block| (block.node, block.at));
+        let maps = self.maps.iter().map(|block| (block.node, block.shift.at));
+        accepts
+            .chain(maps)
+            .filter(|(owner, _)| *owner == spot.node)
+            .fold(top, |far, (_, at)| far.min(at.ahead(spot.address)))
     }
 }

@@ -2,16 +2,9 @@
 ghost use Rattle.std.specs.Prelude.{◌≡◌, OnErr};
 
 use crate::stack::{Stack, wipe};
-use crate::words::{Name, No, Record, Stretch, ask};
+use crate::words::{Name, No, Record, Shift, Stretch, Why, ask};
 use std::alloc::{AllocError, Global};
 use std::collections::BTreeSet;
-
-// What comparing finds.
-#[derive(Clone, Copy, PartialEq, Debug)]
-pub enum Compared {
-    Equal,
-    DifferAt(u64),
-}
 
 // A run: where it begins, and its set of names there.
 #[derive(Drop)]
@@ -20,30 +13,28 @@ struct Run {
     names: BTreeSet<Name>,
 }
 
-// The set of names at an address, if a scratch of this length holds the list; else the refusal with the number.
+// The set of names at an address, if a scratch of this length holds the list.
 fn set_at(
     heap: Global,
     stack: &Stack,
     a: u64,
     scratch: usize,
-    number: u8,
+    short: Why,
 ) -> Result<BTreeSet<Name>, No> {
     let list = stack.list(heap, a)?;
-    ask(list.names.len() <= scratch, number)?;
+    ask(list.names.len() <= scratch, short)?;
     Ok(list.names.iter().copied().collect(heap)?)
 }
 
 // A set with every name raised.
 fn raised(heap: Global, names: &BTreeSet<Name>, by: u64) -> Result<BTreeSet<Name>, AllocError> {
-    let mut all = BTreeSet::new(heap);
-    for name in names.iter() {
-        let address = name.address.wrapping_add(by);
-        all.insert(Name {
+    names
+        .iter()
+        .map(|name| Name {
             component: name.component,
-            address,
-        })?;
-    }
-    Ok(all)
+            address: name.address.wrapping_add(by),
+        })
+        .collect(heap)
 }
 
 // All runs, from 0 up.
@@ -51,7 +42,7 @@ fn runs(heap: Global, stack: &Stack, scratch: usize) -> Result<Vec<Run>, No> {
     let mut runs: Vec<Run> = Vec::new(heap);
     let seams = stack.seams(heap)?;
     for a in seams.iter() {
-        let names = set_at(heap, stack, *a, scratch, 10)?;
+        let names = set_at(heap, stack, *a, scratch, Why::ScratchShort)?;
         let goes_on = match runs.last() {
             Some(run) => raised(heap, &run.names, a.wrapping_sub(run.from))? == names,
             None => false,
@@ -68,14 +59,16 @@ fn records(heap: Global, runs: &[Run]) -> Result<Vec<Record>, AllocError> {
     let mut records = Vec::new(heap);
     let mut hi = u64::MAX;
     for run in runs.iter().rev() {
-        for name in run.names.iter() {
-            let at = Stretch { lo: run.from, hi };
-            records.push(Record {
-                at,
+        let at = Stretch { lo: run.from, hi };
+        records.extend(
+            run.names.iter().map(|name| Record {
+                shift: Shift {
+                    at,
+                    base: name.address,
+                },
                 component: name.component,
-                base: name.address,
-            })?;
-        }
+            }),
+        )?;
         hi = run.from.wrapping_sub(1);
     }
     records.reverse();
@@ -95,32 +88,31 @@ impl Stack {
         wipe(scratch);
         let runs = runs(heap, self, scratch.len())?;
         let records = records(heap, runs.as_slice())?;
-        ask(records.len() <= table.len(), 9)?;
-        for (place, record) in table.iter_mut().zip(records.iter()) {
-            *place = *record;
-        }
-        Ok(records.len())
+        let count = records.len();
+        ask(count <= table.len(), Why::BufferShort)?;
+        table[..count].copy_from_slice(records.as_slice());
+        Ok(count)
     }
 
-    // The lowest address at which two stacks give different sets, or which scratch is too short before that.
+    // The lowest address, if any, at which two stacks give different sets; a scratch may be too short before that.
     pub fn compare(
         &self,
         heap: Global,
         other: &Stack,
         first: &mut [Name],
         second: &mut [Name],
-    ) -> Result<Compared, No> {
+    ) -> Result<Option<u64>, No> {
         wipe(first);
         wipe(second);
         let mine = self.seams(heap)?;
         let theirs = other.seams(heap)?;
         for a in mine.union(&theirs) {
-            let here = set_at(heap, self, *a, first.len(), 10)?;
-            let there = set_at(heap, other, *a, second.len(), 11)?;
+            let here = set_at(heap, self, *a, first.len(), Why::ScratchShort)?;
+            let there = set_at(heap, other, *a, second.len(), Why::SecondScratchShort)?;
             if here != there {
-                return Ok(Compared::DifferAt(*a));
+                return Ok(Some(*a));
             }
         }
-        Ok(Compared::Equal)
+        Ok(None)
     }
 }

@@ -1,85 +1,72 @@
 // Seams: the addresses at which a stack's list may become another one. Between two of them it only rises.
-use crate::meeting::mark;
+use crate::meeting::{EVERYWHERE, mark};
 use crate::net::{BELOW, MOST, Net};
 use crate::stack::{Layer, Stack};
-use crate::words::Stretch;
+use crate::words::Shift;
 use std::alloc::{AllocError, Global};
 use std::collections::BTreeSet;
 
 type Seams = BTreeSet<u64>;
 
-// The addresses of a stretch that are carried to seams.
-fn fetched(heap: Global, seams: &Seams, at: &Stretch, base: u64) -> Result<Vec<u64>, AllocError> {
-    let mut found = Vec::new(heap);
-    for seam in seams.iter() {
-        if let Some(a) = at.fetched(base, *seam) {
-            found.push(a)?;
-        }
-    }
-    Ok(found)
+// The addresses that are carried to seams.
+fn fetched(heap: Global, seams: &Seams, shift: &Shift) -> Result<Vec<u64>, AllocError> {
+    seams
+        .iter()
+        .filter_map(|seam| shift.fetched(*seam))
+        .collect(heap)
 }
 
 // Adds to a node's seams.
-fn add(seams: &mut Vec<Seams>, node: u8, more: &[u64]) -> Result<(), AllocError> {
-    if let Some(own) = seams.get_mut(usize::from(node)) {
-        for a in more {
-            own.insert(*a)?;
-        }
+fn add(seams: &mut [Seams], node: u8, more: &[u64]) -> Result<(), AllocError> {
+    match seams.get_mut(usize::from(node)) {
+        Some(own) => own.extend(more),
+        None => Ok(()),
     }
-    Ok(())
 }
 
 fn total(seams: &[Seams]) -> usize {
-    let mut count: usize = 0;
-    for own in seams {
-        count = count.saturating_add(own.len());
-    }
-    count
+    seams
+        .iter()
+        .fold(0usize, |count, own| count.saturating_add(own.len()))
 }
 
-// The ends of a node's own blocks.
-fn ends(heap: Global, net: &Net, node: u8) -> Result<Seams, AllocError> {
-    let mut own = BTreeSet::new(heap);
-    for block in net.accepts.iter() {
-        if block.node == node {
-            mark(&mut own, &block.at)?;
+// Adds to a node's seams those of where a step of it leads.
+fn fetch_back(
+    heap: Global,
+    seams: &mut [Seams],
+    node: u8,
+    to: u8,
+    shift: &Shift,
+) -> Result<(), AllocError> {
+    match seams.get(usize::from(to)) {
+        Some(there) => {
+            let found = fetched(heap, there, shift)?;
+            add(seams, node, found.as_slice())
         }
+        None => Ok(()),
     }
-    for block in net.maps.iter() {
-        if block.node == node {
-            mark(&mut own, &block.at)?;
-        }
-    }
-    Ok(own)
 }
 
 // Fetches every node's seams back by one step.
-fn step_back(heap: Global, net: &Net, seams: &mut Vec<Seams>) -> Result<(), AllocError> {
+fn step_back(heap: Global, net: &Net, seams: &mut [Seams]) -> Result<(), AllocError> {
     for block in net.maps.iter() {
-        if let Some(there) = seams.get(usize::from(block.to)) {
-            let found = fetched(heap, there, &block.at, block.base)?;
-            add(seams, block.node, found.as_slice())?;
-        }
+        fetch_back(heap, seams, block.node, block.to, &block.shift)?;
     }
     for (node, to) in net.overlays.iter() {
-        if let Some(there) = seams.get(usize::from(*to)) {
-            let found: Vec<u64> = there.iter().copied().collect(heap)?;
-            add(seams, *node, found.as_slice())?;
-        }
+        fetch_back(heap, seams, *node, *to, &EVERYWHERE)?;
     }
     Ok(())
 }
 
 // The seams of a net's entry: all ends of blocks and all seams below, fetched back until nothing new comes.
 fn of_net(heap: Global, net: &Net, below: Seams) -> Result<Seams, AllocError> {
-    let mut seams = Vec::new(heap);
-    for node in 0..BELOW {
-        seams.push(ends(heap, net, node)?)?;
-    }
+    let mut seams: Vec<Seams> = (0..BELOW)
+        .map(|node| net.ends(heap, node))
+        .try_collect(heap)?;
     seams.push(below)?;
     for _ in 0..MOST {
         let before = total(seams.as_slice());
-        step_back(heap, net, &mut seams)?;
+        step_back(heap, net, seams.as_mut_slice())?;
         if total(seams.as_slice()) == before {
             break;
         }
@@ -100,16 +87,13 @@ fn of_layer(heap: Global, layer: &Layer, below: Seams) -> Result<Seams, AllocErr
         }
         Layer::Flat(records) => {
             for record in records.iter() {
-                mark(&mut own, &record.at)?;
+                mark(&mut own, &record.shift.at)?;
             }
         }
         Layer::Net(net) => return of_net(heap, net, below),
-        Layer::Window { at, base } => {
-            mark(&mut own, at)?;
-            let found = fetched(heap, &below, at, *base)?;
-            for a in found.iter() {
-                own.insert(*a)?;
-            }
+        Layer::Window(shift) => {
+            mark(&mut own, &shift.at)?;
+            own.extend(below.iter().filter_map(|seam| shift.fetched(*seam)))?;
         }
         Layer::Renaming(_) => return Ok(below),
     }

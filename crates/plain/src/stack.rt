@@ -2,8 +2,9 @@
 ghost use Rattle.std.specs.Prelude.{◌≡◌, OnErr};
 
 use crate::net::{NODES, Net, Note, Way};
-use crate::words::{NOWHERE, Name, No, Record, Stretch, ask};
+use crate::words::{Name, No, Record, Shift, Spot, Why, ask};
 use std::alloc::{AllocError, Global};
+use std::collections::BTreeMap;
 
 #[derive(Drop)]
 pub enum Layer {
@@ -11,8 +12,9 @@ pub enum Layer {
     Bank { component: u32, size: u64 },
     Flat(Vec<Record>),
     Net(Net),
-    Window { at: Stretch, base: u64 },
-    Renaming(Vec<(u32, u32)>),
+    Window(Shift),
+    // Each component that is renamed, with its new one.
+    Renaming(BTreeMap<u32, u32>),
 }
 
 // The layers, the bottom first.
@@ -33,69 +35,41 @@ pub fn fill(heap: Global, table: &mut Vec<Record>, records: &[Record]) -> Result
     ensures { OnErr result (table.new ≡ table.old) }
 {
     for (place, record) in records.iter().enumerate() {
-        if let Err(No::Refused(number)) = record.at.ask_target(record.base) {
-            return Err(No::AtRecord(number, place));
-        }
+        record
+            .shift
+            .ask_target()
+            .map_err(|why| No::AtRecord(why, place))?;
     }
     *table = records.to_vec(heap)?;
     Ok(())
 }
 
 // Adds a pair to a renaming.
-pub fn pair(pairs: &mut Vec<(u32, u32)>, from: u32, to: u32) -> Result<(), No>
-    ensures { OnErr result (pairs.new.items ≡ pairs.old.items) }
+pub fn pair(pairs: &mut BTreeMap<u32, u32>, from: u32, to: u32) -> Result<(), No>
+    ensures { OnErr result (pairs.new.entries ≡ pairs.old.entries) }
 {
-    for (there, _) in pairs.iter() {
-        ask(*there != from, 5)?;
-    }
-    ask(pairs.len() < 32, 7)?;
-    pairs.push((from, to))?;
+    ask(!pairs.contains_key(&from), Why::AlreadyThere)?;
+    ask(pairs.len() < 32, Why::TableFull)?;
+    pairs.insert(from, to)?;
     Ok(())
 }
 
-// The check that a window's numbers come from.
-pub fn window(lo: u64, hi: u64, base: u64) -> Result<Layer, No> {
-    let at = Stretch { lo, hi };
-    at.ask_target(base)?;
-    Ok(Layer::Window { at, base })
-}
-
-// Puts a whole list into the slots, or zeroes these and refuses with 9.
-fn put(slots: &mut [Name], list: &[Name]) -> Result<usize, No> {
-    if list.len() > slots.len() {
-        wipe(slots);
-        return Err(No::Refused(9));
-    }
-    for (slot, name) in slots.iter_mut().zip(list) {
-        *slot = *name;
-    }
-    Ok(list.len())
+// A window, where its numbers are granted.
+pub fn window(shift: Shift) -> Result<Layer, No> {
+    shift.ask_target()?;
+    Ok(Layer::Window(shift))
 }
 
 pub fn wipe(slots: &mut [Name]) {
-    for slot in slots.iter_mut() {
-        *slot = NOWHERE;
-    }
-}
-
-fn renamed(pairs: &[(u32, u32)], component: u32) -> u32 {
-    for (from, to) in pairs {
-        if *from == component {
-            return *to;
-        }
-    }
-    component
+    slots.fill(Name::default());
 }
 
 fn pass_records(heap: Global, records: &[Record], a: u64) -> Result<Way, AllocError> {
     let mut way = Way::new(heap, a);
     for record in records {
-        way.hold(record.at.ahead(a));
-        if let Some(address) = record.at.carried(record.base, a) {
-            way.note(Note::Own(Name {
-                component: record.component,
-                address,
-            }))?;
+        way.hold(record.shift.at.ahead(a));
+        if let Some(name) = record.name(a) {
+            way.note(Note::Own(name))?;
         }
     }
     Ok(way)
@@ -117,10 +91,18 @@ impl Layer {
                 }
             }
             Layer::Flat(records) => return pass_records(heap, records.as_slice(), a),
-            Layer::Net(net) => return net.walk(heap, net.entry, a),
-            Layer::Window { at, base } => {
-                way.hold(at.ahead(a));
-                if let Some(there) = at.carried(*base, a) {
+            Layer::Net(net) => {
+                return net.walk(
+                    heap,
+                    Spot {
+                        node: net.entry,
+                        address: a,
+                    },
+                );
+            }
+            Layer::Window(shift) => {
+                way.hold(shift.at.ahead(a));
+                if let Some(there) = shift.carried(a) {
                     way.note(Note::Arrival(there))?;
                 }
             }
@@ -133,13 +115,24 @@ impl Layer {
     fn give(&self, names: &mut [Name]) {
         if let Layer::Renaming(pairs) = self {
             for name in names.iter_mut() {
-                let component = renamed(pairs.as_slice(), name.component);
-                *name = Name {
-                    component,
-                    address: name.address,
-                };
+                if let Some(to) = pairs.get(&name.component) {
+                    name.component = *to;
+                }
             }
         }
+    }
+}
+
+impl List {
+    // Puts the whole list into the slots, or zeroes these and refuses; answers its count and the last address that it reaches.
+    fn put(&self, a: u64, slots: &mut [Name]) -> Result<(usize, u64), No> {
+        let count = self.names.len();
+        if count > slots.len() {
+            wipe(slots);
+            return Err(No::Refused(Why::BufferShort));
+        }
+        slots[..count].copy_from_slice(self.names.as_slice());
+        Ok((count, a.saturating_add(self.far)))
     }
 }
 
@@ -196,9 +189,7 @@ impl Stack {
 
     // The count and the reach of the list at an address, which goes into the slots.
     pub fn look(&self, heap: Global, a: u64, slots: &mut [Name]) -> Result<(usize, u64), No> {
-        let list = self.list(heap, a)?;
-        let count = put(slots, list.names.as_slice())?;
-        Ok((count, a.saturating_add(list.far)))
+        self.list(heap, a)?.put(a, slots)
     }
 
     // A look from a stated node of the net on top; elsewhere there is no such node.
@@ -209,16 +200,12 @@ impl Stack {
         a: u64,
         slots: &mut [Name],
     ) -> Result<(usize, u64), No> {
-        let [below @ .., top] = self.layers.as_slice() else {
-            return Err(No::Refused(1));
+        let [below @ .., Layer::Net(net)] = self.layers.as_slice() else {
+            return Err(No::Refused(Why::NodeOutOfRange));
         };
-        let Layer::Net(net) = top else {
-            return Err(No::Refused(1));
-        };
-        ask(node < NODES, 1)?;
-        let list = gather(heap, below, &net.walk(heap, node, a)?)?;
-        let count = put(slots, list.names.as_slice())?;
-        Ok((count, a.saturating_add(list.far)))
+        ask(node < NODES, Why::NodeOutOfRange)?;
+        let way = net.walk(heap, Spot { node, address: a })?;
+        gather(heap, below, &way)?.put(a, slots)
     }
 
     pub fn meets(&self, heap: Global, a: u64, name: Name) -> Result<bool, AllocError> {

@@ -2,8 +2,8 @@
 ghost use Rattle.std.specs.Prelude.{◌≡◌, OnErr};
 
 use crate::lines::{Frame, Known, read_line};
-use crate::net::Net;
-use crate::words::No;
+use crate::net::{Edit, Net};
+use crate::words::{No, Why, ask};
 use std::alloc::{AllocError, Global};
 
 // Which part of a load refused a line.
@@ -24,8 +24,8 @@ pub struct Refusal {
 
 fn blamed(no: &No) -> Part {
     match no {
-        No::Refused(12) | No::Refused(13) => Part::Text,
-        No::Refused(14) | No::Refused(15) => Part::Frame,
+        No::Refused(Why::NotADigit | Why::OddDigits) => Part::Text,
+        No::Refused(Why::KindUnknown | Why::LengthWrong) => Part::Frame,
         _ => Part::Net,
     }
 }
@@ -33,69 +33,36 @@ fn blamed(no: &No) -> Part {
 fn apply(heap: Global, net: &mut Net, line: &[u8]) -> Result<(), No> {
     match read_line(heap, line, Known::Building)? {
         Frame::Edit(edit) => net.edit(heap, edit),
-        Frame::Look(_) => Err(No::Refused(14)),
+        Frame::Look(_) => Err(No::Refused(Why::KindUnknown)),
     }
 }
 
-// The lines of a text: each ends in a line feed, which the last may lack.
-fn lines(heap: Global, text: &[u8]) -> Result<Vec<Vec<u8>>, AllocError> {
-    let mut lines = Vec::new(heap);
-    let mut line = Vec::new(heap);
-    let mut open = false;
-    for c in text {
-        open = *c != b'\n';
-        if open {
-            line.push(*c)?;
-        } else {
-            lines.push(std::mem::replace(&mut line, Vec::new(heap)))?;
-        }
-    }
-    if open {
-        lines.push(line)?;
-    }
-    Ok(lines)
-}
-
-// A fresh net with the lines of a text applied.
+// A fresh net with the lines of a text applied: each ends in a line feed, which the last may lack.
 pub fn load(heap: Global, group: u16, text: &[u8]) -> Result<Net, Refusal> {
     let mut net = Net::new(heap, group);
-    let all = match lines(heap, text) {
-        Ok(all) => all,
-        Err(_) => return Err(Refusal {
-            line: 0,
-            part: Part::Text,
-            no: No::Memory,
-        }),
-    };
-    for (place, line) in all.iter().enumerate() {
-        if let Err(no) = apply(heap, &mut net, line.as_slice()) {
-            return Err(Refusal {
-                line: place.saturating_add(1),
-                part: blamed(&no),
-                no,
-            });
-        }
+    for (place, ended) in text.split_inclusive(|c| *c == b'\n').enumerate() {
+        let line = ended.strip_suffix(b"\n").unwrap_or(ended);
+        apply(heap, &mut net, line).map_err(|no| Refusal {
+            line: place.saturating_add(1),
+            part: blamed(&no),
+            no,
+        })?;
     }
     Ok(net)
 }
 
 // The text of a net.
 fn text(heap: Global, net: &Net) -> Result<String, AllocError> {
-    let entry = net.entry;
-    let mut all = format!(in heap; "45{entry:02x}\n")?;
+    let mut all = String::new(heap);
+    writeln!(all, "{}", Edit::Enter(net.entry))?;
     for block in net.accepts.iter() {
-        let (node, lo, hi) = (block.node, block.at.lo, block.at.hi);
-        all.push_str(format!(in heap; "41{node:02x}{lo:016x}{hi:016x}\n")?.as_str())?;
+        writeln!(all, "{}", Edit::Accept(*block))?;
     }
     for block in net.maps.iter() {
-        let (node, lo, hi) = (block.node, block.at.lo, block.at.hi);
-        let (to, base) = (block.to, block.base);
-        all.push_str(format!(in heap;
-            "4d{node:02x}{lo:016x}{hi:016x}{to:02x}{base:016x}\n"
-        )?.as_str())?;
+        writeln!(all, "{}", Edit::Map(*block))?;
     }
     for (node, to) in net.overlays.iter() {
-        all.push_str(format!(in heap; "4f{node:02x}{to:02x}\n")?.as_str())?;
+        writeln!(all, "{}", Edit::Over(*node, *to))?;
     }
     Ok(all)
 }
@@ -105,11 +72,8 @@ pub fn write(heap: Global, net: &Net, bytes: &mut [u8]) -> Result<usize, No>
     ensures { OnErr result (bytes.new ≡ bytes.old) }
 {
     let all = text(heap, net)?;
-    if all.len() > bytes.len() {
-        return Err(No::Refused(9));
-    }
-    for (place, byte) in bytes.iter_mut().zip(all.as_bytes()) {
-        *place = *byte;
-    }
-    Ok(all.len())
+    let count = all.len();
+    ask(count <= bytes.len(), Why::BufferShort)?;
+    bytes[..count].copy_from_slice(all.as_bytes());
+    Ok(count)
 }

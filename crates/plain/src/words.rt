@@ -3,23 +3,32 @@ ghost use Rattle.std.specs.Prelude.{◌≡◌, is_ok};
 
 use std::alloc::{AllocError, AllocFailed};
 
-#[derive(Clone, Copy, PartialEq, Eq, PartialOrd, Ord, Debug)]
+// By default what a slot holds after a refusal.
+#[derive(Clone, Copy, PartialEq, Eq, PartialOrd, Ord, Debug, Default)]
 pub struct Name {
     pub component: u32,
     pub address: u64,
 }
 
-// What a slot holds after a refusal.
-pub const NOWHERE: Name = Name {
-    component: 0,
-    address: 0,
-};
+// An address at a node of a net.
+#[derive(Clone, Copy, PartialEq, Debug)]
+pub struct Spot {
+    pub node: u8,
+    pub address: u64,
+}
 
 // The addresses from lo to hi, both included.
-#[derive(Clone, Copy, PartialEq, Debug)]
+#[derive(Clone, Copy, PartialEq, Eq, PartialOrd, Ord, Debug, Default)]
 pub struct Stretch {
     pub lo: u64,
     pub hi: u64,
+}
+
+// A stretch whose lo is carried to base, and the rest behind it.
+#[derive(Clone, Copy, PartialEq, Eq, PartialOrd, Ord, Debug, Default)]
+pub struct Shift {
+    pub at: Stretch,
+    pub base: u64,
 }
 
 #[derive(Clone, Copy, PartialEq, Debug)]
@@ -31,29 +40,51 @@ pub struct Accept {
 #[derive(Clone, Copy, PartialEq, Debug)]
 pub struct Map {
     pub node: u8,
-    pub at: Stretch,
+    pub shift: Shift,
     pub to: u8,
-    pub base: u64,
 }
 
-#[derive(Clone, Copy, PartialEq, Debug)]
+#[derive(Clone, Copy, PartialEq, Eq, PartialOrd, Ord, Debug, Default)]
 pub struct Record {
-    pub at: Stretch,
+    pub shift: Shift,
     pub component: u32,
-    pub base: u64,
+}
+
+// The refusals of the documents' list that tell no more than their number.
+#[derive(Clone, Copy, PartialEq, Debug)]
+pub enum Why {
+    NodeOutOfRange = 1,
+    DestinationOutOfRange = 2,
+    RangeReversed = 3,
+    TargetPastTop = 4,
+    AlreadyThere = 5,
+    NotThere = 6,
+    TableFull = 7,
+    BufferShort = 9,
+    ScratchShort = 10,
+    SecondScratchShort = 11,
+    NotADigit = 12,
+    OddDigits = 13,
+    KindUnknown = 14,
+    LengthWrong = 15,
 }
 
 // Why a call was not granted.
 #[derive(Clone, Copy, PartialEq, Debug)]
 pub enum No {
-    // Refused with this number.
-    Refused(u8),
-    // Refused with 8: the node and the address of the first name whose walk is too long.
-    Overfull(u8, u64),
-    // A record of a table refused with this number: its place.
-    AtRecord(u8, usize),
+    Refused(Why),
+    // Refused with 8: the first name whose walk is too long.
+    Overfull(Spot),
+    // A record of a table refused: its place.
+    AtRecord(Why, usize),
     // Not a refusal: there was no memory to work in.
     Memory,
+}
+
+impl From<Why> for No {
+    fn from(why: Why) -> No {
+        No::Refused(why)
+    }
 }
 
 impl From<AllocError> for No {
@@ -68,44 +99,21 @@ impl<T: Drop> From<AllocFailed<T>> for No {
     }
 }
 
-// Puts a question: if the answer is no, the call is refused with the question's number.
-pub fn ask(yes: bool, number: u8) -> Result<(), No>
+// Puts a question: if the answer is no, the call is refused for what stands beside it.
+pub fn ask<E: Drop>(yes: bool, why: E) -> Result<(), E>
     ensures { is_ok result ≡ yes }
 {
-    if yes {
-        Ok(())
-    } else {
-        Err(No::Refused(number))
-    }
+    if yes { Ok(()) } else { Err(why) }
 }
 
 impl Stretch {
     pub fn covers(&self, a: u64) -> bool {
-        self.lo <= a && a <= self.hi
+        (self.lo..=self.hi).contains(&a)
     }
 
-    // Where an address of the stretch comes to, if lo is carried to base.
-    pub fn carried(&self, base: u64, a: u64) -> Option<u64> {
-        if self.covers(a) {
-            base.checked_add(a.saturating_sub(self.lo))
-        } else {
-            None
-        }
-    }
-
-    // Which address of the stretch is carried to a, if lo is carried to base.
-    pub fn fetched(&self, base: u64, a: u64) -> Option<u64> {
-        let back = self.lo.checked_add(a.checked_sub(base)?)?;
-        if self.covers(back) { Some(back) } else { None }
-    }
-
-    // Questions 3 and 4.
-    pub fn ask_target(&self, base: u64) -> Result<(), No> {
-        ask(self.lo <= self.hi, 3)?;
-        ask(
-            base.checked_add(self.hi.saturating_sub(self.lo)).is_some(),
-            4,
-        )
+    // Question 3.
+    pub(crate) fn ask_range(&self) -> Result<(), Why> {
+        ask(self.lo <= self.hi, Why::RangeReversed)
     }
 
     // How far above a it stays so that the stretch covers, or does not cover.
@@ -117,5 +125,37 @@ impl Stretch {
         } else {
             u64::MAX.saturating_sub(a)
         }
+    }
+}
+
+impl Shift {
+    // Where an address of the stretch comes to.
+    pub fn carried(&self, a: u64) -> Option<u64> {
+        let there = self.base.checked_add(a.checked_sub(self.at.lo)?)?;
+        self.at.covers(a).then_some(there)
+    }
+
+    // Which address of the stretch is carried to a.
+    pub fn fetched(&self, a: u64) -> Option<u64> {
+        let back = self.at.lo.checked_add(a.checked_sub(self.base)?)?;
+        self.at.covers(back).then_some(back)
+    }
+
+    // Questions 3 and 4.
+    pub fn ask_target(&self) -> Result<(), Why> {
+        self.at.ask_range()?;
+        let last = self.base.checked_add(self.at.hi.saturating_sub(self.at.lo));
+        ask(last.is_some(), Why::TargetPastTop)
+    }
+}
+
+impl Record {
+    // The name that an address ends at by the record.
+    pub(crate) fn name(&self, a: u64) -> Option<Name> {
+        let address = self.shift.carried(a)?;
+        Some(Name {
+            component: self.component,
+            address,
+        })
     }
 }
