@@ -1,6 +1,7 @@
 ghost use Rattle.std.specs.Prelude.{◌≡◌, ◌++◌, IfOk, string_bytes, OnOk};
 ghost use Rattle.model.specs.Model.{lists};
 ghost use Rattle.netfile.specs.Rows.{rows_text, FlatText};
+ghost use Rattle.netfile.specs.declared.flat.FlatError.TheVariants.{Refused};
 
 use flatten::flat::flatten;
 use model::faults::Fault;
@@ -12,18 +13,6 @@ use text::row::push_row;
 
 // The longest list of a net over an empty place: a walk meets at most 64 names.
 pub const SLOTS: usize = 64;
-
-pub const ZERO: Name = Name {
-    component: 0,
-    address: 0,
-};
-
-const BLANK: Record = Record {
-    lo: 0,
-    hi: 0,
-    component: 0,
-    base: 0,
-};
 
 // Why there is no flat table: no memory, or a refusal.
 #[derive(Drop)]
@@ -41,6 +30,14 @@ impl From<AllocError> for FlatError {
 impl<T: Drop> From<AllocFailed<T>> for FlatError {
     fn from(_refused: AllocFailed<T>) -> FlatError {
         FlatError::Memory
+    }
+}
+
+impl From<Fault> for FlatError {
+    ghost from_gives = { λ fault r. r ≡ Refused fault };
+
+    fn from(fault: Fault) -> FlatError {
+        FlatError::Refused(fault)
     }
 }
 
@@ -63,29 +60,23 @@ fn flat_text_within<S: Space>(
 ) -> Result<String, FlatError>
     ensures { IfOk result (λ text. FlatText (lists (S.Space.means space.now).shape) (string_bytes text)) }
 {
-    let mut scratch = [ZERO; SLOTS];
-    match flatten(space, &mut scratch, table) {
-        Ok(count) => {
-            let mut lines = String::new(heap);
-            push_rows(&mut lines, &table[0..count])?;
-            Ok(lines)
-        }
-        Err(fault) => Err(FlatError::Refused(fault)),
-    }
+    let mut scratch = [Name::default(); SLOTS];
+    let count = flatten(space, &mut scratch, table)?;
+    let mut lines = String::new(heap);
+    push_rows(&mut lines, &table[0..count])?;
+    Ok(lines)
 }
 
 // The rows of a space: where they do not fit, twice the room is tried.
 pub fn flat_text<S: Space>(heap: Global, space: &S) -> Result<String, FlatError>
     ensures { IfOk result (λ text. FlatText (lists (S.Space.means space.now).shape) (string_bytes text)) }
 {
-    let mut room: usize = 256;
-    for _ in 0..40u8 {
-        let mut table = vec![in heap; BLANK; room]?;
+    for doublings in 8..48u8 {
+        let mut table = vec![in heap; Record::default(); 1 << doublings]?;
         match flat_text_within(heap, space, table.as_mut_slice()) {
-            Err(FlatError::Refused(Fault::BufferShort)) => room = room.saturating_mul(2),
-            Err(error) => return Err(error),
-            Ok(text) => return Ok(text),
+            Err(FlatError::Refused(Fault::BufferShort)) => {}
+            done => return done,
         }
     }
-    Err(FlatError::Refused(Fault::BufferShort))
+    Err(Fault::BufferShort.into())
 }

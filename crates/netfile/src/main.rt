@@ -4,8 +4,9 @@
 mod flat;
 
 use anyhow::anyhow;
-use flat::{FlatError, SLOTS, ZERO, flat_text};
+use flat::{FlatError, SLOTS, flat_text};
 use flatten::compare::compare;
+use model::names::Name;
 use nets::net::Net;
 use space::socket::Socket;
 use std::env;
@@ -18,14 +19,6 @@ const LONGEST: usize = 5 + 37 * 64 + 55 * 128 + 7 * 32;
 const USAGE: &str =
     "usage: netfile [text | rows [NODE] | compare NODE NODE] < FRAMES, where a NODE is 0 to 31";
 
-fn main(rt: HostRuntime) -> anyhow::Result<ExitCode> {
-    match run(&rt) {
-        Ok(true) => Ok(ExitCode::SUCCESS),
-        Ok(false) => Ok(ExitCode::FAILURE),
-        Err(error) => Err(error),
-    }
-}
-
 // What is asked for.
 #[derive(Drop)]
 enum Task {
@@ -35,72 +28,60 @@ enum Task {
     Compare(u8, u8),
 }
 
-// Loads the text and does the task; false where the text is refused, which is told in one line.
-fn run(rt: &HostRuntime) -> anyhow::Result<bool> {
-    let task = read_task(rt)?;
+// Loads the text and does the task; a text that is refused is told in one line.
+fn main(rt: HostRuntime) -> anyhow::Result<ExitCode> {
+    let task = read_task(&rt)?;
     let mut text = Vec::new(rt.alloc());
     let _ = rt.stdin().read_to_end(&mut text)?;
     let mut net = Net::new(0, Socket);
     if let Err(fault) = net.load(text.as_slice()) {
         eprintln!(rt; "{fault}")?;
-        return Ok(false);
+        return Ok(ExitCode::FAILURE);
     }
     match task {
         Task::Both => {
-            print_text(rt, &net)?;
+            print_text(&rt, &net)?;
             println!(rt; "")?;
-            print_rows(rt, &net)?;
+            print_rows(&rt, &net)?;
         }
-        Task::Text => print_text(rt, &net)?,
+        Task::Text => print_text(&rt, &net)?,
         Task::Rows(node) => {
             if let Some(node) = node {
                 let _ = net.enter(node);
             }
-            print_rows(rt, &net)?;
+            print_rows(&rt, &net)?;
         }
         Task::Compare(one, two) => {
             let mut other = Net::new(0, Socket);
             let _ = other.load(text.as_slice());
             let _ = net.enter(one);
             let _ = other.enter(two);
-            print_difference(rt, &net, &other)?;
+            print_difference(&rt, &net, &other)?;
         }
     }
-    Ok(true)
+    Ok(ExitCode::SUCCESS)
 }
 
 fn read_task(rt: &HostRuntime) -> anyhow::Result<Task> {
-    let mut words = env::args(rt)?;
-    let _program = words.next();
-    let Some(task) = words.next() else {
-        return Ok(Task::Both);
-    };
-    match task.as_str() {
-        "text" => Ok(Task::Text),
-        "rows" => match words.next() {
-            Some(word) => Ok(Task::Rows(Some(read_node(word.as_str())?))),
-            None => Ok(Task::Rows(None)),
-        },
-        "compare" => {
-            let (Some(one), Some(two)) = (words.next(), words.next()) else {
-                return Err(anyhow!("{USAGE}"));
-            };
-            Ok(Task::Compare(read_node(one.as_str())?, read_node(two.as_str())?))
-        }
+    let mut words = env::args(rt)?.skip(1);
+    let (task, one, two) = (words.next(), words.next(), words.next());
+    match (task.as_deref(), one.as_deref(), two.as_deref()) {
+        (None, ..) => Ok(Task::Both),
+        (Some("text"), ..) => Ok(Task::Text),
+        (Some("rows"), None, _) => Ok(Task::Rows(None)),
+        (Some("rows"), Some(node), _) => Ok(Task::Rows(Some(read_node(node)?))),
+        (Some("compare"), Some(one), Some(two)) => Ok(Task::Compare(
+            read_node(one)?,
+            read_node(two)?,
+        )),
         _ => Err(anyhow!("{USAGE}")),
     }
 }
 
 fn read_node(word: &str) -> anyhow::Result<u8> {
-    match word.parse::<u8>() {
-        Ok(node) => {
-            if node < 32 {
-                Ok(node)
-            } else {
-                Err(anyhow!("{USAGE}"))
-            }
-        }
-        Err(_) => Err(anyhow!("{USAGE}")),
+    match word.parse() {
+        Ok(node @ 0..=31) => Ok(node),
+        _ => Err(anyhow!("{USAGE}")),
     }
 }
 
@@ -124,8 +105,8 @@ fn print_rows(rt: &HostRuntime, net: &Net<Socket>) -> anyhow::Result<()> {
 
 // The lowest address at which the two have not the same names.
 fn print_difference(rt: &HostRuntime, one: &Net<Socket>, two: &Net<Socket>) -> anyhow::Result<()> {
-    let mut scratch = [ZERO; SLOTS];
-    let mut other = [ZERO; SLOTS];
+    let mut scratch = [Name::default(); SLOTS];
+    let mut other = [Name::default(); SLOTS];
     match compare(one, two, &mut scratch, &mut other) {
         Ok(Some(address)) => println!(rt; "they differ first at {address:016x}")?,
         Ok(None) => println!(rt; "they are equal at every address")?,

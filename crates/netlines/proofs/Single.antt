@@ -1,7 +1,6 @@
 -- One call served, and the one answer to it.
-use Rattle.std.proofs.Common.{◌≡◌, ℕ, ◌-◌, min, List, [], ◌∷◌, ◌++◌, length, take, sym, refl, ap, ◌∙◌, subst, inl, inr, arith}
-use Rattle.std.proofs.lemmas.List.{length-append, take_all}
-use Rattle.std.proofs.lemmas.Bool.{cases_lt}
+use Rattle.std.proofs.Common.{◌≡◌, ℕ, List, [], ◌∷◌, ◌++◌, length, refl, ap, subst, arith}
+use Rattle.std.proofs.lemmas.List.{length-append}
 use Rattle.model.specs.Model.{Model}
 use Rattle.model.specs.Edits.{Edit}
 use Rattle.serve.specs.declared.call.Call.{Call}
@@ -34,10 +33,3 @@ popped x y (b ∷ bs) e = let n = ap length e in let l = length-append bs (y ∷
 
 pub not_empty : {A : Type 0} (x : A) (all : List A) (n : ℕ) → all ≡ x ∷ [] → n ≡ length all → n ≡ 0 → ⊥
 not_empty x all n e l z = let k = ap length e in omega arith
-
-pub take_shown : {A : Type 0} (count : ℕ) (xs : List A) → take (min count (length xs) - 0) xs ≡ take count xs
-take_shown count xs =
-    elim (cases_lt count (length xs)) [
-      | inl h ↦ ap (λ n. take n xs) (let e : min count (length xs) - 0 ≡ count = omega arith in e)
-      | inr h ↦ take_all (min count (length xs) - 0) xs (omega arith) ∙ sym (take_all count xs h)
-    ]

@@ -18,7 +18,7 @@ use std::alloc::{AllocError, Global};
 use text::number::push_number;
 use text::row::push_names;
 
-// How many names a look may find.
+// The longest list of a net over a bank: a walk meets at most 64 names.
 const SLOTS: usize = 64;
 
 // Does what a line says, and gives the answer's line.
@@ -30,14 +30,8 @@ pub fn answer<B: Space + Drop>(
     ensures { IfOk result (λ line. (string_bytes line ≡ (answered (net_means B.Space.means net.old).shape read).0) × ((net_means B.Space.means net.new).shape ≡ (answered (net_means B.Space.means net.old).shape read).1)) }
 {
     match read {
-        Ok(frame) => {
-            let line = obey(heap, net, frame)?;
-            Ok(line)
-        }
-        Err(fault) => {
-            let line = refusal_line(heap, fault)?;
-            Ok(line)
-        }
+        Ok(frame) => obey(heap, net, frame),
+        Err(fault) => refusal_line(heap, fault),
     }
 }
 
@@ -46,15 +40,13 @@ fn obey<B: Space + Drop>(heap: Global, net: &mut Net<B>, frame: Frame) -> Result
     ensures { IfOk result (λ line. (string_bytes line ≡ reply_text (reference (net_means B.Space.means net.old).shape (frame_asked frame)).0) × ((net_means B.Space.means net.new).shape ≡ (reference (net_means B.Space.means net.old).shape (frame_asked frame)).1)) }
 {
     let call = call_of::<B>(heap, frame)?;
+    // Pushed, since with `vec!` the check does not find that the size of a call fits.
     let mut calls = Vec::new(heap);
     calls.push(call)?;
     let mut answers = serve(heap, net, calls)?;
     match answers.pop() {
-        Some(answer) => {
-            let line = reply_line(heap, answer)?;
-            Ok(line)
-        }
-        None => unreachable(),
+        Some(answer) => reply_line(heap, answer),
+        None => unreachable!(),
     }
 }
 
@@ -70,10 +62,7 @@ fn call_of<B: Space + Drop>(heap: Global, frame: Frame) -> Result<Call<NetEdit<B
         Frame::DropAccept(block) => NetEdit::DropAccept(block),
         Frame::DropMap(block) => NetEdit::DropMap(block),
         Frame::Look { address } => {
-            let slots = vec![in heap; Name {
-                component: 0,
-                address: 0
-            }; SLOTS]?;
+            let slots = vec![in heap; Name::default(); SLOTS]?;
             return Ok(Call::Look { address, slots });
         }
     };
@@ -96,11 +85,7 @@ fn end_line(heap: Global, res: Result<(), Fault>) -> Result<String, AllocError>
     ensures { IfOk result (λ line. string_bytes line ≡ end_text (ended res)) }
 {
     match res {
-        Ok(()) => {
-            let mut line = String::new(heap);
-            line.push_str("+")?;
-            Ok(line)
-        }
+        Ok(()) => String::from_str(heap, "+"),
         Err(fault) => refusal_line(heap, fault),
     }
 }
@@ -109,8 +94,7 @@ fn end_line(heap: Global, res: Result<(), Fault>) -> Result<String, AllocError>
 fn refusal_line(heap: Global, fault: Fault) -> Result<String, AllocError>
     ensures { IfOk result (λ line. string_bytes line ≡ refusal_text (told fault)) }
 {
-    let mut line = String::new(heap);
-    line.push_str("- ")?;
+    let mut line = String::from_str(heap, "- ")?;
     push_number(&mut line, u64::from(fault.number()), 2)?;
     Ok(line)
 }
@@ -124,11 +108,7 @@ fn look_line(
     ensures { IfOk result (λ line. string_bytes line ≡ reply_text (looked res slots.now)) }
 {
     match res {
-        Ok((count, _)) => {
-            let shown = count.min(slots.len());
-            let line = names_line(heap, &slots[0..shown])?;
-            Ok(line)
-        }
+        Ok((count, _)) => names_line(heap, &slots[..count.min(slots.len())]),
         Err(fault) => refusal_line(heap, fault),
     }
 }
@@ -137,8 +117,7 @@ fn look_line(
 fn names_line(heap: Global, names: &[Name]) -> Result<String, AllocError>
     ensures { IfOk result (λ line. string_bytes line ≡ names_line_lem names.now) }
 {
-    let mut line = String::new(heap);
-    line.push_str("= ")?;
+    let mut line = String::from_str(heap, "= ")?;
     push_number(&mut line, names.len() as u64, 2)?;
     push_names(&mut line, names)?;
     Ok(line)
@@ -150,8 +129,7 @@ fn flat_line(heap: Global, res: Result<usize, Fault>) -> Result<String, AllocErr
 {
     match res {
         Ok(count) => {
-            let mut line = String::new(heap);
-            line.push_str("= ")?;
+            let mut line = String::from_str(heap, "= ")?;
             push_number(&mut line, count as u64, 16)?;
             Ok(line)
         }

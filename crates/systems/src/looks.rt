@@ -14,11 +14,8 @@ pub fn read_look(text: &str) -> Option<Look>
     ensures { result ≡ look_read text.now }
 {
     let line = text.as_bytes();
-    if line.len() < 19 {
-        return None;
-    }
-    let node = read_number(&line[0..2])?;
-    let address = read_number(&line[3..19])?;
+    let node = read_number(line.get(0..2)?)?;
+    let address = read_number(line.get(3..19)?)?;
     Some(Look {
         node: node as u8,
         address,

@@ -8,23 +8,14 @@ use looks::{look_line, read_look};
 use model::names::Name;
 use nets::net::Net;
 use space::socket::Socket;
-use std::fs;
+use std::{fmt, fs};
 
 // The longest list of a net over an empty place: a walk meets at most 64 names.
 const SLOTS: usize = 64;
 
-const ZERO: Name = Name {
-    component: 0,
-    address: 0,
-};
-
 fn main(rt: HostRuntime) -> anyhow::Result<()> {
-    run(&rt)
-}
-
-fn run(rt: &HostRuntime) -> anyhow::Result<()> {
     for system in ["omap4460", "desktop", "server"] {
-        check_system(rt, system)?;
+        check_system(&rt, system)?;
     }
     Ok(())
 }
@@ -39,36 +30,49 @@ fn check_system(rt: &HostRuntime, system: &str) -> anyhow::Result<()> {
         return Ok(());
     }
     let count = frames.lines().count();
-    let (good, bad) = check_looks(rt, &net, looks.as_str())?;
-    if bad == 0 {
-        println!(rt; "{system}: {count} frames, {good} looks as expected")?;
-    } else {
-        println!(rt; "{system}: {count} frames, {good} looks as expected, {bad} not")?;
-    }
+    let tally = check_looks(rt, &net, looks.as_str())?;
+    println!(rt; "{system}: {count} frames, {tally}")?;
     Ok(())
 }
 
 // How many lines are as expected, and how many are not.
-fn check_looks(rt: &HostRuntime, net: &Net<Socket>, looks: &str) -> anyhow::Result<(u64, u64)> {
-    let mut good: u64 = 0;
-    let mut bad: u64 = 0;
-    for line in looks.lines() {
-        if check_look(rt, net, line)? {
-            good = good.saturating_add(1);
-        } else {
-            bad = bad.saturating_add(1);
-        }
-    }
-    Ok((good, bad))
+#[derive(Clone, Copy, Default)]
+struct Tally {
+    good: u64,
+    bad: u64,
 }
 
-// Whether a line is its look's own line; where it is not, that is told.
+impl fmt::Display for Tally {
+    fn fmt<W: fmt::Write>(&self, f: &mut fmt::Formatter<W>) -> fmt::Result {
+        let Tally { good, bad } = *self;
+        write!(f, "{good} looks as expected")?;
+        if bad > 0 {
+            write!(f, ", {bad} not")?;
+        }
+        Ok(())
+    }
+}
+
+fn check_looks(rt: &HostRuntime, net: &Net<Socket>, looks: &str) -> anyhow::Result<Tally> {
+    let mut tally = Tally::default();
+    for line in looks.lines() {
+        let count = if check_look(rt, net, line)? {
+            &mut tally.good
+        } else {
+            &mut tally.bad
+        };
+        *count = count.saturating_add(1);
+    }
+    Ok(tally)
+}
+
+// A yes or no, not a flag: whether a line is its look's own line; where it is not, that is told.
 fn check_look(rt: &HostRuntime, net: &Net<Socket>, line: &str) -> anyhow::Result<bool> {
     let Some(look) = read_look(line) else {
         tell(rt, line, "nothing, as the line begins with no look")?;
         return Ok(false);
     };
-    let mut slots = [ZERO; SLOTS];
+    let mut slots = [Name::default(); SLOTS];
     let found = look_line(rt.alloc(), net, look, &mut slots)?;
     if found.as_str() == line {
         return Ok(true);
