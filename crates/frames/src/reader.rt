@@ -48,6 +48,7 @@ impl LineReader {
     pub fn take_all(&mut self, line: &[u8])
         ensures { seen self.new ≡ fold after (seen self.old) line.now }
     {
+        // A `for`: of what a closure changes a proof would know nothing.
         for byte in line {
             self.take(*byte as char);
         }

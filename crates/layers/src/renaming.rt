@@ -106,6 +106,7 @@ impl<B: Space + Drop> Layer for Renaming<B> {
         match e {
             RenamingEdit::Pair { from, to } => self.pair(from, to),
             RenamingEdit::Plug(below) => {
+                // What was there may own something, which is let go here.
                 let _old = self.plug(below);
                 Ok(())
             }

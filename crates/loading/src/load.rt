@@ -13,6 +13,7 @@ use model::faults::Fault;
 use table::table::Table;
 
 // The part that refuses to read a line: its digits are asked about first.
+// No conversion: the part depends on who reports the fault.
 fn reading_part(fault: Fault) -> Part
     ensures { result ≡ reading_part_lem (told fault) }
 {

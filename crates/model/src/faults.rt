@@ -29,6 +29,7 @@ pub enum Fault {
 
 impl Fault {
     // The number under which the documents list the refusal.
+    // By a match: the variants hold values, and 3 and 4 stand for two of them each.
     pub fn number(&self) -> u8
         ensures { result ≡ number (told self.now) }
     {

@@ -45,6 +45,7 @@ impl From<Fault> for FlatError {
 pub fn push_rows(out: &mut String, rows: &[Record]) -> Result<(), AllocError>
     ensures { OnOk result (string_bytes out.new ≡ string_bytes out.old ++ rows_text rows.now) }
 {
+    // A `for`: of what a closure changes a proof would know nothing.
     for row in rows {
         push_row(out, *row)?;
         out.push_str("\n")?;

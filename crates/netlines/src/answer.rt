@@ -51,6 +51,7 @@ fn obey<B: Space + Drop>(heap: Global, net: &mut Net<B>, frame: Frame) -> Result
 }
 
 // The call of a frame.
+// No conversion: the slots of a look need memory.
 fn call_of<B: Space + Drop>(heap: Global, frame: Frame) -> Result<Call<NetEdit<B>>, AllocError>
     ensures { IfOk result (λ call. asked_of (net_meant B.Space.means) call ≡ frame_asked frame) }
 {

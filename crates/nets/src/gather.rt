@@ -52,6 +52,7 @@ fn put_each<B: Space>(
                 if count >= slots.len() {
                     return Err(Fault::BufferShort);
                 }
+                // By index: through `get_mut` the proof did not close.
                 slots[count] = name;
                 count += 1;
             }

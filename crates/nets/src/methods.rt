@@ -36,6 +36,7 @@ impl<B: Space> Net<B> {
     }
 
     // Exchanges the space below, and hands the old one back.
+    // One line in each layer: a trait that provided it would need a line in each for the field.
     pub fn plug(&mut self, below: B) -> B
         ensures old { result ≡ self.old.below }
         ensures kept { (net_means B.Space.means self.new).shape ≡ layered (inner self.old.table).keeps (B.Space.means below).shape }

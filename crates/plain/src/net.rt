@@ -294,6 +294,7 @@ impl Net {
     }
 
     // How far above the address no block of the node begins or ends to cover.
+    // Without `stretches`, which makes a vector: this is asked at each name of a walk.
     fn ahead(&self, spot: Spot) -> u64 {
         let top = u64::MAX.saturating_sub(spot.address);
         let accepts = self.accepts.iter().map(|block| (block.node, block.at));

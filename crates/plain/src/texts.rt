@@ -22,6 +22,7 @@ pub struct Refusal {
     pub no: No,
 }
 
+// A function and no conversion: a part tells who asked.
 fn blamed(no: &No) -> Part {
     match no {
         No::Refused(Why::NotADigit | Why::OddDigits) => Part::Text,

@@ -84,6 +84,7 @@ impl<'a> Search<'a> {
         let net = self.net;
         let mut sum = 0;
         let mut from = 0;
+        // No chain: a bound that is found is remembered.
         while let Some(step) = next_step(net, node, range.low, from) {
             let there = Range {
                 low: step.address,

@@ -20,6 +20,7 @@ where
         (λ _. stack.new ≡ stack.old) }
 {
     let mut answers = Vec::with_capacity(heap, calls.len())?;
+    // A `for`: of what a closure changes a proof would know nothing.
     for call in calls {
         let answer = serve_one(stack, call);
         answers.push_reserved(answer);

@@ -46,6 +46,7 @@ fn any_leads(records: &[Record], address: u64, name: Name) -> bool
 }
 
 // The last address up to which the record covers each address as it covers this one.
+// A function and no method: records are declared in another crate, where it would have no use.
 fn steady_to(row: &Record, address: u64) -> u64
     ensures { result ≡ steady row.now address }
 {

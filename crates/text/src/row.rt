@@ -83,6 +83,7 @@ impl Layout {
         if line.len() != self.line_len() {
             return Err(RowFault::Length { found: line.len() });
         }
+        // A `for`: what a column asks of its place a closure would ask of the whole line.
         for (index, byte) in line.iter().enumerate() {
             self.check_column(index, *byte)?;
         }
@@ -125,6 +126,7 @@ pub fn read_address(line: &[u8]) -> Result<u64, RowFault>
 }
 
 // Appends a record as a line of a table, with no line feed; without memory nothing changes.
+// Not one with push_name: the fields differ, and a list of them would print no plainer.
 pub fn push_row(out: &mut String, row: Record) -> Result<(), AllocError>
     ensures { string_bytes out.new ≡ (if is_ok result then string_bytes out.old ++ row_text row else string_bytes out.old) }
 {
@@ -154,6 +156,7 @@ pub fn push_name(out: &mut String, name: Name) -> Result<(), AllocError>
 pub fn push_names(out: &mut String, names: &[Name]) -> Result<(), AllocError>
     ensures { OnOk result (string_bytes out.new ≡ string_bytes out.old ++ names_text names.now) }
 {
+    // A `for`: of what a closure changes a proof would know nothing.
     for name in names {
         out.push_str(" ")?;
         push_name(out, *name)?;

@@ -15,7 +15,8 @@ use model::faults::Fault;
 use model::names::Name;
 
 impl Walk {
-    // Meets an address at a node and walks its steps. None where that is more names than it may meet.
+    // Meets an address at a node and walks its steps. None where that is more names than it may meet. Who starts the walk knows how to refuse that.
+    // The net, node and address are handed on apart: the last two change with every call, and who held the first would have to promise that it stays.
     #[cycle(meet_steps)]
     fn meet(&mut self, blocks: &Blocks, node: u8, address: u64) -> Option<()>
         requires { node < 32 }

@@ -55,6 +55,7 @@ impl Writer<'_> {
         requires { Fits (lines L.text all.now) self.old }
         ensures { Adds (lines L.text all.now) self.old self.new }
     {
+        // A `for`: of what a closure changes a proof would know nothing.
         for one in all {
             one.write(self);
         }
@@ -89,6 +90,7 @@ impl Writer<'_> {
         ensures { Adds (overlay_lines 0 (kept blocks.now).overlays) self.old self.new }
     {
         let overlays = &blocks.overlays[..];
+        // A `for`: of what a closure changes a proof would know nothing.
         for (node, overlay) in overlays.iter().enumerate() {
             self.overlay(node as u8, *overlay);
         }

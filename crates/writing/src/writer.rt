@@ -65,6 +65,7 @@ impl<'a> Writer<'a> {
         requires { Fits (spelled digits value) self.old }
         ensures { Adds (spelled digits value) self.old self.new }
     {
+        // A `for`: of what a closure changes a proof would know nothing.
         for place in (0..digits).rev() {
             self.byte(digit_at(value, place) as u8);
         }
@@ -75,6 +76,7 @@ impl<'a> Writer<'a> {
         requires { Fits (line_of fields.now) self.old }
         ensures { Adds (line_of fields.now) self.old self.new }
     {
+        // A `for`: of what a closure changes a proof would know nothing.
         for field in fields {
             self.number(field.value, field.digits);
         }

@@ -50,6 +50,7 @@ impl<B: Space> Space for Window<B> {
         ensures buffer { slots.new ≡ filled (lists (window_means B.Space.means self.now).shape address) slots.old }
         ensures reach { within self.now.lo self.now.hi address ≡ false → ReachIs (clear_to self.now.lo address) result }
     {
+        // Two tests and no range, since below and above it answer differently.
         if address < self.lo {
             return Ok((0, self.lo - 1));
         }
@@ -76,6 +77,7 @@ impl<B: Space + Drop> Layer for Window<B> {
     fn edit(&mut self, e: WindowEdit<B>) -> Result<(), Fault> {
         match e {
             WindowEdit::Plug(below) => {
+                // What was there may own something, which is let go here.
                 let _old = self.plug(below);
                 Ok(())
             }
