@@ -2,22 +2,17 @@
 
 // Looks addresses up in a flat table: rows from standard input, an empty line, then one address a line.
 mod answer;
+mod input;
 
 use answer::{names_line, read_sane_row};
+use input::Lines;
 use model::names::Name;
 use model::records::Record;
 use space::flat::FlatTable;
-use std::alloc::Global;
-use std::io::{BufRead, Input, Split, StdinLock};
-use std::iter::Zip;
-use std::ops::RangeFrom;
 use text::row::read_address;
 
-// The lines of standard input with their numbers, from 1, as bytes: what is no text is a line like any other.
-type Lines = Zip<RangeFrom<u64>, Split<StdinLock<'static>, Global>>;
-
 fn main(rt: HostRuntime) -> anyhow::Result<()> {
-    let mut lines = (1..).zip(rt.reader().split(rt.alloc(), b'\n'));
+    let mut lines = Lines::new(&rt);
     let rows = read_rows(&rt, &mut lines)?;
     let mut table = FlatTable::new();
     if let Err(fault) = table.fill(rows.as_slice()) {
@@ -29,12 +24,14 @@ fn main(rt: HostRuntime) -> anyhow::Result<()> {
 // The rows up to an empty line; one that is refused is told with its line, and left out.
 fn read_rows(rt: &HostRuntime, lines: &mut Lines) -> anyhow::Result<Vec<Record>> {
     let mut rows = Vec::new(rt.alloc());
-    for (number, line) in lines {
-        let line = line?;
-        if line.is_empty() {
+    for _ in 0..u64::MAX {
+        let Some(number) = lines.read_line()? else {
+            break;
+        };
+        if lines.line().is_empty() {
             break;
         }
-        match read_sane_row(line.as_slice()) {
+        match read_sane_row(lines.line()) {
             Ok(row) => rows.push(row)?,
             Err(problem) => println!(rt; "line {number}: {problem}; the row is left out")?,
         }
@@ -50,8 +47,11 @@ fn answer_addresses(
     rows: usize,
 ) -> anyhow::Result<()> {
     let mut slots = vec![in rt.alloc(); Name::default(); rows]?;
-    for (number, line) in lines {
-        match read_address(line?.as_slice()) {
+    for _ in 0..u64::MAX {
+        let Some(number) = lines.read_line()? else {
+            break;
+        };
+        match read_address(lines.line()) {
             Ok(address) => {
                 let line = names_line(rt.alloc(), table, address, slots.as_mut_slice())?;
                 println!(rt; "{line}")?;
