@@ -89,17 +89,18 @@ impl Table {
         requires { bounded (kept new) ≡ true }
         ensures { self.new.blocks ≡ new }
     {
-        self.blocks = new;
+        *self = Table { blocks: new };
     }
 
     // Keeps new blocks, unless one of their walks meets more than 64 names.
+    // It stores them itself: so each of the two stores is turned by an edit of its own.
     fn settle(&mut self, new: Blocks) -> Result<(), Fault>
         ensures { Decided (walks_bounded (kept new)) (kept new) (kept self.old.blocks) (kept self.new.blocks) result }
     {
         if let Some((node, address)) = first_overfull(&new) {
             return Err(Fault::WalkTooLong { node, address });
         }
-        self.keep(new);
+        self.blocks = new;
         Ok(())
     }
 }
