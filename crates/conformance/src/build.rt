@@ -14,7 +14,6 @@ use space::Space;
 use space::bank::Bank;
 use space::socket::Socket;
 use std::alloc::{AllocError, Global};
-use std::collections::BTreeMap;
 
 // Bytes for the text of any net.
 pub const ENOUGH: usize = 9700;
@@ -165,7 +164,7 @@ pub fn renaming_over<B: Space + Drop>(
 ) -> Result<Both<Renaming<B>>, No> {
     let mut stack = below.second;
     let mut first = Renaming::new(below.first);
-    let mut second = BTreeMap::new(bench.heap);
+    let mut second = Vec::new(bench.heap);
     for _ in 0..pairs {
         let from = u32::from(bench.dice.byte(48));
         let to = u32::from(bench.dice.byte(40));

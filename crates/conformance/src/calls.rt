@@ -15,7 +15,6 @@ use plain::words::No;
 use plain::{net, words};
 use space::Space;
 use std::alloc::{AllocError, Global};
-use std::collections::BTreeMap;
 
 // What is shown of a call where its answers differ.
 #[derive(Clone, Copy, Debug)]
@@ -91,7 +90,7 @@ pub fn call_edit<B: Space>(
 pub fn call_pair<B: Space>(
     bench: &mut Bench,
     first: &mut Renaming<B>,
-    second: &mut BTreeMap<u32, u32>,
+    second: &mut Vec<(u32, u32)>,
     from: u32,
     to: u32,
 ) -> Result<(), AllocError> {

@@ -4,7 +4,6 @@ ghost use Rattle.std.specs.Prelude.{◌≡◌, OnErr};
 use crate::net::{NODES, Net, Note, Way};
 use crate::words::{Name, No, Record, Shift, Spot, Why, ask};
 use std::alloc::{AllocError, Global};
-use std::collections::BTreeMap;
 
 #[derive(Drop)]
 pub enum Layer {
@@ -13,8 +12,8 @@ pub enum Layer {
     Flat(Vec<Record>),
     Net(Net),
     Window(Shift),
-    // Each component that is renamed, with its new one.
-    Renaming(BTreeMap<u32, u32>),
+    // Each component that is renamed, with its new one. A list and no map: whoever lists a component twice means the first.
+    Renaming(Vec<(u32, u32)>),
 }
 
 // The layers, the bottom first.
@@ -45,12 +44,13 @@ pub fn fill(heap: Global, table: &mut Vec<Record>, records: &[Record]) -> Result
 }
 
 // Adds a pair to a renaming.
-pub fn pair(pairs: &mut BTreeMap<u32, u32>, from: u32, to: u32) -> Result<(), No>
-    ensures { OnErr result (pairs.new.entries ≡ pairs.old.entries) }
+pub fn pair(pairs: &mut Vec<(u32, u32)>, from: u32, to: u32) -> Result<(), No>
+    ensures { OnErr result (pairs.new.items ≡ pairs.old.items) }
 {
-    ask(!pairs.contains_key(&from), Why::AlreadyThere)?;
+    let there = pairs.iter().any(|pair| pair.0 == from);
+    ask(!there, Why::AlreadyThere)?;
     ask(pairs.len() < 32, Why::TableFull)?;
-    pairs.insert(from, to)?;
+    pairs.push((from, to))?;
     Ok(())
 }
 
@@ -115,7 +115,8 @@ impl Layer {
     fn give(&self, names: &mut [Name]) {
         if let Layer::Renaming(pairs) = self {
             for name in names.iter_mut() {
-                if let Some(to) = pairs.get(&name.component) {
+                let pair = pairs.iter().find(|pair| pair.0 == name.component);
+                if let Some((_, to)) = pair {
                     name.component = *to;
                 }
             }
