@@ -21,7 +21,7 @@ comes_from ps xs n e =
       ap (λ a. holds xs (record { component = x.component; address = a })) (ap (λ (y : Name). y.address) r.2) ∙ r.1,
     )
 
-goes_to : (ps : List (ℕ × ℕ)) (xs : List Name) (n : Name) (k : ℕ) → replaced ps k ≡ n.component → holds xs (record { component = k; address = n.address }) ≡ true
+pub goes_to : (ps : List (ℕ × ℕ)) (xs : List Name) (n : Name) (k : ℕ) → replaced ps k ≡ n.component → holds xs (record { component = k; address = n.address }) ≡ true
     → holds (map (renamed ps) xs) n ≡ true
 goes_to ps xs n k e h =
     ap (λ c. holds (map (renamed ps) xs) (record { component = c; address = n.address })) (sym e)
@@ -49,8 +49,8 @@ module _ (ps : List (ℕ × ℕ)) (xs : List Name) (n : Name) where
       let h = and_parts (eqb (replaced ps k) n.component) (holds xs (record { component = k; address = n.address })) e in
       goes_to ps xs n k (eqb-true (replaced ps k) n.component h.0) h.1
 
-  not_met : leads_lem ps xs n n.component ≡ false → some_of (λ p. leads_lem ps xs n p.0) ps ≡ false → holds (map (renamed ps) xs) n ≡ false
-  not_met own none =
+  none_leads : leads_lem ps xs n n.component ≡ false → some_of (λ p. leads_lem ps xs n p.0) ps ≡ false → holds (map (renamed ps) xs) n ≡ false
+  none_leads own none =
       elim (cases_Bool (holds (map (renamed ps) xs) n)) [
         | inr e ↦ e
         | inl e ↦ (let r = comes_from ps xs n e in
@@ -59,6 +59,14 @@ module _ (ps : List (ℕ × ℕ)) (xs : List Name) (n : Name) where
               | inl s ↦ absurd (both_ways (leads_lem ps xs n n.component) own (ap (leads_lem ps xs n) (sym r.1 ∙ s) ∙ t))
               | inr s ↦ absurd (both_ways (some_of (λ p. leads_lem ps xs n p.0) ps) none s)
             ])
+      ]
+
+  pub not_met : (replaced ps n.component ≡ n.component → holds xs n ≡ true → ⊥) → some_of (λ p. leads_lem ps xs n p.0) ps ≡ false → holds (map (renamed ps) xs) n ≡ false
+  not_met own none =
+      elim (cases_Bool (leads_lem ps xs n n.component)) [
+        | inr e ↦ none_leads e none
+        | inl e ↦ (let h = and_parts (eqb (replaced ps n.component) n.component) (holds xs n) e in
+            absurd (own (eqb-true (replaced ps n.component) n.component h.0) h.1))
       ]
 
 abbrev pub pair_leads : List Pair → List Name → Name → Bool
@@ -74,6 +82,6 @@ met_is ps xs n =
       | inl e ↦ goes_from qs xs n n.component e ∙ sym (ap (λ b. b || pair_leads ps xs n) e)
       | inr e ↦ elim (cases_Bool (pair_leads ps xs n)) [
         | inl s ↦ (let p = some_one q qs (some_two q ps ∙ s) in goes_from qs xs n p.0.0 p.1 ∙ sym (λ i. e i || s i))
-        | inr s ↦ not_met qs xs n e (some_two q ps ∙ s) ∙ sym (λ i. e i || s i)
+        | inr s ↦ none_leads qs xs n e (some_two q ps ∙ s) ∙ sym (λ i. e i || s i)
       ]
     ]
