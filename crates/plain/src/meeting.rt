@@ -5,10 +5,10 @@ use crate::words::{Shift, Spot, Stretch};
 use std::alloc::{AllocError, Global};
 use std::collections::{BTreeMap, BTreeSet};
 
-// A node's count of names met, by the address from which it holds. Any count above 64 is 65, so that counts are added and compared as numbers.
+// A node's count of names met, by the address from which it holds; before the first of these it is 1. Any count above 64 is 65, so that counts are added and compared as numbers.
 type Counts = BTreeMap<u64, u8>;
 
-// The count that holds at an address of a node; an arrival in the space below is one name.
+// The count that holds at an address of a node; an arrival in the space below is one name too.
 fn count_at(counts: &[Counts], spot: Spot) -> u8 {
     counts
         .get(usize::from(spot.node))
@@ -39,14 +39,18 @@ impl Net {
     // The ends of a node's own blocks.
     pub(crate) fn ends(&self, heap: Global, node: u8) -> Result<BTreeSet<u64>, AllocError> {
         let mut seams = BTreeSet::new(heap);
-        let stretches = self.stretches(heap, node)?;
-        for at in stretches.iter() {
-            mark(&mut seams, at)?;
+        let accepts = self.accepts.iter().filter(|block| block.node == node);
+        let maps = self.maps.iter().filter(|block| block.node == node);
+        let stretches = accepts
+            .map(|block| block.at)
+            .chain(maps.map(|block| block.shift.at));
+        for at in stretches {
+            mark(&mut seams, &at)?;
         }
         Ok(seams)
     }
 
-    // Every address of a node at which its next count may change.
+    // Every address of a node at which its next count may change: its blocks' ends, 0 if it has an overlay, and what a step carries to a change.
     fn changes(
         &self,
         heap: Global,
@@ -54,11 +58,11 @@ impl Net {
         node: u8,
     ) -> Result<BTreeSet<u64>, AllocError> {
         let mut seams = self.ends(heap, node)?;
-        seams.insert(0)?;
         for block in self.maps.iter().filter(|block| block.node == node) {
             fetch(&mut seams, counts, block.to, &block.shift)?;
         }
         if let Some(to) = self.overlays.get(&node) {
+            seams.insert(0)?;
             fetch(&mut seams, counts, *to, &EVERYWHERE)?;
         }
         Ok(seams)
@@ -67,7 +71,7 @@ impl Net {
     // A node's next counts.
     fn recount(&self, heap: Global, counts: &[Counts], node: u8) -> Result<Counts, AllocError> {
         let mut next: Counts = BTreeMap::new(heap);
-        let mut last = 0;
+        let mut last = 1;
         let seams = self.changes(heap, counts, node)?;
         for a in seams.iter() {
             let met = self.met(heap, counts, Spot { node, address: *a })?;

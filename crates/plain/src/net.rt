@@ -2,7 +2,7 @@
 ghost use Rattle.std.specs.Prelude.{◌≡◌, OnErr};
 
 use crate::lines::Kind;
-use crate::words::{Accept, Map, Name, No, Spot, Stretch, Why, ask};
+use crate::words::{Accept, Map, Name, No, Spot, Why, ask};
 use std::alloc::{AllocError, Global};
 use std::collections::BTreeMap;
 use std::fmt;
@@ -119,8 +119,11 @@ impl Map {
 
     // Where it leads from a spot, if it is a block of that node and covers the address.
     fn step(&self, from: Spot) -> Option<Spot> {
+        if self.node != from.node {
+            return None;
+        }
         let address = self.shift.carried(from.address)?;
-        (self.node == from.node).then_some(Spot {
+        Some(Spot {
             node: self.to,
             address,
         })
@@ -283,25 +286,14 @@ impl Net {
         Ok(way)
     }
 
-    // The stretches of a node's own blocks.
-    pub(crate) fn stretches(&self, heap: Global, node: u8) -> Result<Vec<Stretch>, AllocError> {
-        let accepts = self.accepts.iter().map(|block| (block.node, block.at));
-        let maps = self.maps.iter().map(|block| (block.node, block.shift.at));
-        accepts
-            .chain(maps)
-            .filter_map(|(owner, at)| (owner == node).then_some(at))
-            .collect(heap)
-    }
-
     // How far above the address no block of the node begins or ends to cover.
-    // Without `stretches`, which makes a vector: this is asked at each name of a walk.
     fn ahead(&self, spot: Spot) -> u64 {
         let top = u64::MAX.saturating_sub(spot.address);
-        let accepts = self.accepts.iter().map(|block| (block.node, block.at));
-        let maps = self.maps.iter().map(|block| (block.node, block.shift.at));
+        let accepts = self.accepts.iter().filter(|block| block.node == spot.node);
+        let maps = self.maps.iter().filter(|block| block.node == spot.node);
         accepts
-            .chain(maps)
-            .filter(|(owner, _)| *owner == spot.node)
-            .fold(top, |far, (_, at)| far.min(at.ahead(spot.address)))
+            .map(|block| block.at)
+            .chain(maps.map(|block| block.shift.at))
+            .fold(top, |far, at| far.min(at.ahead(spot.address)))
     }
 }
