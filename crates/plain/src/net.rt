@@ -287,6 +287,7 @@ impl Net {
     }
 
     // How far above the address no block of the node begins or ends to cover.
+    // Over the same chain as `ends`: a function that both call would make a vector at each name of a walk.
     fn ahead(&self, spot: Spot) -> u64 {
         let top = u64::MAX.saturating_sub(spot.address);
         let accepts = self.accepts.iter().filter(|block| block.node == spot.node);
